@@ -5,3 +5,4 @@ pub mod Lent
 pub mod Check
 pub mod Allowed
 pub mod Edges
+pub mod Determined
