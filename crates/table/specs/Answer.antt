@@ -24,6 +24,19 @@ numberOf ShortBuffer = 9
 numberOf NoRoomForClasses = 10
 numberOf NoRoomForEdges = 11
 
+pub number-lt : (r : Refusal) → numberOf r < 12
+number-lt BadLength = omega arith
+number-lt (BadCheck block) = omega arith
+number-lt (BadBlock block) = omega arith
+number-lt OverLimit = omega arith
+number-lt (LabelOutOfRange class) = omega arith
+number-lt (EdgeOutOfRange edge) = omega arith
+number-lt (NotAscending edge) = omega arith
+number-lt (NoSuchClass which) = omega arith
+number-lt ShortBuffer = omega arith
+number-lt NoRoomForClasses = omega arith
+number-lt NoRoomForEdges = omega arith
+
 abbrev pub placeOf : Refusal → ℕ
 placeOf BadLength = 0
 placeOf (BadCheck block) = block
