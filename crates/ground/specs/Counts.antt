@@ -1,5 +1,5 @@
 -- How many numbers below a bound pass a test, and sums over the numbers below a bound.
-use Rattle.std.specs.Prelude.{◌≡◌, refl, Bool, true, false, ℕ, zero, suc, ◌+◌, ◌*◌, ◌-◌, ◌≤◌, ◌<◌}
+use Rattle.std.specs.Prelude.{◌≡◌, refl, Bool, true, false, ℕ, zero, suc, ◌+◌, ◌*◌, ◌≤◌, ◌<◌}
 use Rattle.std.proofs.Common.{sym, ap, ap₂, subst, ◌∙◌, inl, inr, arith, not-suc-le-zero, le_refl, add-one}
 use Rattle.std.proofs.Math.Decide.{dec_lt, le_ind}
 use Rattle.ground.specs.Tests.{bool_cases, lt_cases}

@@ -1,9 +1,11 @@
 // The relation layer: starting relation, single round, whole run and question, over a table in memory.
+#![tactic(auto)]
+
 ghost use Rattle.std.specs.Prelude.{◌≡◌, ℕ, ◌+◌, ◌*◌, ◌-◌, ◌/◌, ◌%◌, ◌^◌, ◌≤◌, ◌<◌, length, get_or, set};
 ghost use Rattle.relation.specs.Words.{bit_of, with_pair};
 
 // What a question is answered.
-#[derive(Drop)]
+#[derive(Clone, Copy)]
 pub enum Reply {
     Yes,
     No,

@@ -1,4 +1,6 @@
 // What the programs print, worked out into a lent buffer.
+#![tactic(auto)]
+
 ghost use Rattle.std.specs.Prelude.{◌≡◌, [], ◌∷◌, ◌++◌, ℕ, ◌+◌, ◌*◌, ◌≤◌, ◌<◌, length};
 ghost use Rattle.table.specs.Answer.{place_of};
 ghost use Rattle.relation.specs.Words.{bit_of};

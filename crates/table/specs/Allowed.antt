@@ -8,7 +8,7 @@ use borrow.Author.Tests.{leb-false, lt-leb, ltb-false, le-ltb, lt-ltb, not-false
 use Rattle.ground.specs.Tests.{first_passed, and_cases, none_l, none_r}
 use Rattle.theory.specs.Graph.{Closed}
 use Rattle.table.specs.Limits.{class_limit, edge_limit, label_limit, role_limit, labels_length, edges_length}
-use Rattle.table.specs.Answer.{refuse, refuse_first, ◌then◌, then_done, refuse_done, refuse_first_done}
+use Rattle.table.specs.Answer.{refuse, refuse_first, then_done, refuse_done, refuse_first_done}
 use Rattle.table.specs.Lent.{Lent, labels_of, source_of, role_of, target_of, graph_of}
 use Rattle.table.specs.Check.{too_short, over_limit, label_over, edge_before, label_wrong, edge_wrong, order_wrong, contents_of, check_of}
 use Rattle.table.specs.declared.Refusal.TheVariants.{OverLimit, LabelOutOfRange, EdgeOutOfRange, NotAscending, ShortBuffer}

@@ -1,5 +1,5 @@
 -- No place is large: it is a block, a class, an edge, or 0 or 1. So a place always fits the 16 bits that an exported answer gives it.
-use Rattle.std.specs.Prelude.{ℕ, ◌+◌, ◌≤◌, ◌<◌, ◌≡◌, refl, Bool, true, false, leb, ltb}
+use Rattle.std.specs.Prelude.{ℕ, ◌≤◌, ◌<◌, ◌≡◌, refl, Bool, true, false, leb, ltb}
 use Rattle.std.proofs.Common.{sym, ap, subst, ◌∙◌, inl, inr, arith, ltb-true}
 use Rattle.ground.specs.Tests.{first, bool_cases}
 use Rattle.table.specs.Limits.{class_limit, edge_limit}

@@ -1,4 +1,6 @@
 // The table in memory: its own type with the limits, the answers of a call, the check 9, 4, 5, 6, 7, and an index of first edges for the layers above.
+#![tactic(auto)]
+
 ghost use Rattle.std.specs.Prelude.{◌≡◌, ◌++◌, ℕ, ◌+◌, ◌*◌, ◌-◌, ◌≤◌, ◌<◌, length, get_or, drop};
 ghost use Rattle.ground.specs.Tests.{first};
 ghost use Rattle.table.specs.Limits.{limits, lengths};
@@ -8,7 +10,7 @@ ghost use Rattle.table.specs.Check.{over_limit, label_over, outside, before, lab
 ghost use Rattle.table.specs.Edges.{index_of};
 
 // A table's counts: classes, edges, labels, roles. Its labels and edges are lent beside it.
-#[derive(Drop)]
+#[derive(Clone, Copy)]
 pub struct Table {
     pub n: usize,
     pub m: usize,
@@ -17,7 +19,7 @@ pub struct Table {
 }
 
 // How long lent buffers are at least.
-#[derive(Drop)]
+#[derive(Clone, Copy)]
 pub struct Lengths {
     pub labels: usize,
     pub edges: usize,
@@ -64,7 +66,7 @@ impl Table {
 }
 
 // Why a call is refused, named for what is wrong. The number that a variant holds is the place.
-#[derive(Drop)]
+#[derive(Clone, Copy)]
 pub enum Refusal {
     BadLength,
     BadCheck(usize),
@@ -120,7 +122,7 @@ impl Refusal {
 }
 
 // What a call answers that has nothing to say but that it was done.
-#[derive(Drop)]
+#[derive(Clone, Copy)]
 pub enum Outcome {
     Done,
     Refused(Refusal),

@@ -2,7 +2,6 @@
 -- and "d is under a" for joint classes, so one theorem serves both. Scripts of steps in one growing table are here too.
 use Rattle.std.specs.Prelude.{◌≡◌, ◌⊎◌, ◌↔◌, ℕ}
 use Rattle.std.proofs.Common.{sym, subst, ◌∙◌, inl, inr}
-use Rattle.ground.specs.Counts.{one}
 
 -- c bounds a and b, and nothing that bounds both is nearer
 pub record Bound (R : ℕ → ℕ → Type 0) (c a b : ℕ) : Type 0 where

@@ -8,7 +8,6 @@ use Rattle.theory.specs.Order.{under_refl, under_trans}
 use Rattle.theory.specs.Common.{Common, common_left, common_right, common_least}
 use Rattle.theory.specs.Joint.{Joint, joint_left, joint_right, joint_greatest}
 use Rattle.theory.specs.Appended.{Appended, old_answers, edge_up, edge_down, old_index}
-use Rattle.theory.specs.Making.{Meets}
 use Rattle.theory.specs.Bounds.{Bound, Tree, leaf, node, Leaf, regroup, turn, Value, more_leaves, Kind, common, joint, Script, Made, made_bound}
 
 -- what the start rule has to say of classes made: the part of `Common` and `Joint` that is not about edges

@@ -5,7 +5,7 @@ use Rattle.ground.specs.Relations.{Inside, Rel, pairs, rank}
 use Rattle.theory.specs.Graph.{Graph, Under, Edge}
 use Rattle.theory.specs.Common.{Common, common_left, common_right, common_least}
 use Rattle.theory.specs.Appended.{Appended, edge_up, edge_down}
-use Rattle.theory.specs.Reach.{here, next, only, Reached}
+use Rattle.theory.specs.Reach.{here, next, Reached}
 
 unfoldable pub number : Graph → Rel → ℕ → ℕ → ℕ
 number G r u v = G.size + rank G.size r u v
