@@ -1,6 +1,6 @@
 -- A relation in words, paper 01, "Sizes": four words for each row, the bit of row B and column A in word A / 64 of the row at A % 64.
 -- Sets of pairs that other layers keep are held in the same way.
-use Rattle.std.specs.Prelude.{◌≡◌, refl, Bool, true, false, ◌&&◌, ◌||◌, List, ◌++◌, ℕ, ◌+◌, ◌*◌, ◌-◌, ◌/◌, ◌%◌, ◌^◌, ◌≤◌, ◌<◌, eqb, ltb, length, set, drop, replicate}
+use Rattle.std.specs.Prelude.{◌≡◌, refl, Bool, true, false, ◌&&◌, ◌||◌, List, ◌++◌, ℕ, ◌+◌, ◌*◌, ◌/◌, ◌%◌, ◌^◌, ◌≤◌, ◌<◌, eqb, ltb, length, set, drop, replicate}
 use Rattle.std.proofs.Math.Path.{sym, ap, ap₂}
 use Rattle.std.proofs.Common.{◌∙◌, one-mul, length-set, length-append, length-drop, get_or-set_other, shl_exact}
 use native.Mathlib.Omega.{arith}
