@@ -40,7 +40,7 @@ def main() -> int:
     for f in specs:
         for name in DECLARED.findall(f.read_text()):
             declared.setdefault(name, set()).add(str(f))
-    renamed = {name: snake(name) for name in declared if snake(name) != name}
+    renamed = {name: snake(name) for name in declared if snake(name) != name and not name.endswith("-determined")}
 
     clashes = []
     taken: dict[str, str] = {}

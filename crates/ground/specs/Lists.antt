@@ -2,9 +2,7 @@
 -- What a loop that fills or copies a buffer has done so far is said with these. Runs of lists one after the other are in Runs.antt.
 use Rattle.std.specs.Prelude.{◌≡◌, refl, get_or, set}
 use Rattle.std.proofs.Math.Path.{sym, ap, ap₂}
-use Rattle.std.proofs.Common.{◌∙◌, inl, inr, arith, not-suc-le-zero, zero-add, suc-add, add-one, length-take, length-drop, take-append-drop, drop-cons, length-take-le, take-take, take-add, take_all, get_or-append-add, get_or-take}
-use mathlib.Core.List.{List, [], ◌∷◌, ◌++◌, append_assoc}
-use Prim.Native.Nat.{ℕ, zero, suc, ◌+◌, ◌-◌, ◌≤◌, ◌<◌}
+use Rattle.std.proofs.Common.{◌∙◌, inl, inr, arith, not-suc-le-zero, zero-add, suc-add, add-one, length-take, length-drop, take-append-drop, drop-cons, length-take-le, take-take, take-add, take_all, get_or-append-add, get_or-take, List, [], ◌∷◌, ◌++◌, append_assoc, ℕ, zero, suc, ◌+◌, ◌-◌, ◌≤◌, ◌<◌}
 use Rattle.std.proofs.Math.ListN.{length, take, drop, length-append, get_or-append}
 use Rattle.std.proofs.Math.Seq.{take_at, drop_at, drop-drop, append_snoc, take-nil, drop-append-add}
 use Rattle.std.proofs.lemmas.List.Edits.{sets, sets-eq}

@@ -1,8 +1,5 @@
 -- What the check's tests come to.
-use mathlib.Core.Path.{◌≡◌}
-use mathlib.Core.Bool.{false}
-use Prim.Native.Nat.{ℕ, ◌/◌, ◌^◌, ◌<◌}
-use native.Mathlib.Omega.{arith}
+use Rattle.std.proofs.Common.{◌≡◌, false, ℕ, ◌/◌, ◌^◌, ◌<◌, arith}
 use Rattle.table.specs.Check.{label_over}
 
 -- no word has a label 64 or above

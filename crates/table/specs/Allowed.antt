@@ -4,7 +4,7 @@ use Rattle.std.specs.Prelude.{ℕ, zero, suc, ◌+◌, ◌-◌, ◌≤◌, ◌<�
 use Rattle.std.proofs.Common.{sym, subst, ◌∙◌, true≢false, inl, inr, arith, add-sub_cancel, add-one}
 use Rattle.std.proofs.Math.Bool.{Bool, false, not}
 use Rattle.std.proofs.Math.Dec.{leb}
-use borrow.Author.Tests.{leb-false, lt-leb, ltb-false, le-ltb, lt-ltb, not-false}
+use Rattle.std.proofs.lemmas.Bool.{leb-false, lt-leb, ltb-false, le-ltb, lt-ltb, not-false}
 use Rattle.ground.specs.Tests.{first_passed, and_cases, none_l, none_r}
 use Rattle.theory.specs.Graph.{Closed}
 use Rattle.table.specs.Limits.{class_limit, edge_limit, label_limit, role_limit, labels_length, edges_length}

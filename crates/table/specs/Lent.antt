@@ -2,7 +2,7 @@
 -- The same lists as a description graph with paper 01's start rule: this is the one place where labels are read.
 use Rattle.std.specs.Prelude.{ℕ, ◌+◌, ◌*◌, ◌<◌, ◌≡◌, true, ◌&&◌, List, get_or, ltb}
 use Rattle.std.proofs.Math.Bool.{Bool}
-use borrow.Author.Tests.{ltb-true, lt-ltb}
+use Rattle.std.proofs.lemmas.Bool.{ltb-true, lt-ltb}
 use Rattle.ground.specs.Tests.{and_in, and_l, and_r}
 use Rattle.ground.specs.Relations.{Rel, Inside}
 use Rattle.ground.specs.Bits.{among, among_refl, among_trans}

@@ -1,8 +1,7 @@
 -- Classes and edges appended to a graph: what was there keeps its edges, and no answer between older classes changes.
 use Rattle.std.specs.Prelude.{◌≡◌, refl, ◌↔◌}
 use Rattle.std.proofs.Math.Path.{sym}
-use Rattle.std.proofs.Common.{◌∙◌, arith, le_refl}
-use Prim.Native.Nat.{ℕ, zero, suc, ◌≤◌, ◌<◌}
+use Rattle.std.proofs.Common.{◌∙◌, arith, le_refl, ℕ, zero, suc, ◌≤◌, ◌<◌}
 use Rattle.std.proofs.Math.Decide.{dec_lt}
 use Rattle.ground.specs.Tests.{same_test}
 use Rattle.ground.specs.Relations.{Holds, Inside, Rel}

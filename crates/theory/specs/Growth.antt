@@ -2,10 +2,8 @@
 -- The pairs reachable in a common class are found so.
 use Rattle.std.specs.Prelude.{◌≡◌, Bool, true, false, not}
 use Rattle.std.proofs.Math.Path.{sym}
-use Rattle.std.proofs.Common.{◌∙◌, inl, inr}
+use Rattle.std.proofs.Common.{◌∙◌, inl, inr, ℕ, zero, suc, ◌+◌, ◌*◌, ◌-◌, ◌≤◌, ◌<◌, arith}
 use Rattle.std.proofs.Math.Bool.{true≢false}
-use Prim.Native.Nat.{ℕ, zero, suc, ◌+◌, ◌*◌, ◌-◌, ◌≤◌, ◌<◌}
-use native.Mathlib.Omega.{arith}
 use Rattle.std.proofs.lemmas.Bool.{not-true, not-false}
 use Rattle.ground.specs.Tests.{any, any_out, bool_cases, none_out, same_test}
 use Rattle.ground.specs.Relations.{Holds, Inside, Rel, falls, falls_none, falls_some, pairs, pairs_le, pairs_strict}

@@ -1,8 +1,6 @@
 -- Each round that changes something takes a pair away, so some round is the least that changes nothing, and it is the greatest simulation.
 use Rattle.std.specs.Prelude.{◌≡◌, refl, Bool, true, false, not, ◌⊎◌}
-use Rattle.std.proofs.Common.{sym, subst, ◌∙◌, true≢false, inl, inr}
-use Prim.Native.Nat.{ℕ, zero, suc, ◌+◌, ◌*◌, ◌-◌, ◌≤◌, ◌<◌}
-use native.Mathlib.Omega.{arith}
+use Rattle.std.proofs.Common.{sym, subst, ◌∙◌, true≢false, inl, inr, ℕ, zero, suc, ◌+◌, ◌*◌, ◌-◌, ◌≤◌, ◌<◌, arith}
 use Rattle.std.proofs.lemmas.Bool.{not-true, not-false}
 use Rattle.ground.specs.Tests.{any, any_out, bool_cases, none_out, same_test}
 use Rattle.ground.specs.Relations.{Inside, Rel, falls, falls_none, falls_some, pairs, pairs_le, pairs_strict}

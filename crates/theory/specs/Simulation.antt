@@ -1,12 +1,11 @@
 -- The rounds stop at the greatest simulation: every simulation lies within every round, and a round that changes nothing is a simulation.
 use Rattle.std.specs.Prelude.{◌≡◌, refl, true, ◌&&◌, ◌↔◌}
 use Rattle.std.proofs.Math.Path.{sym}
-use Rattle.std.proofs.Common.{subst, ◌∙◌, arith}
+use Rattle.std.proofs.Common.{subst, ◌∙◌, arith, ℕ, zero, suc, ◌≤◌, ◌<◌}
 use Rattle.std.proofs.Math.Bool.{Bool}
-use Prim.Native.Nat.{ℕ, zero, suc, ◌≤◌, ◌<◌}
 use Rattle.std.proofs.Math.Decide.{le_ind}
 use Rattle.std.proofs.Math.Dec.{eqb}
-use borrow.Author.Tests.{eqb-true, eq-eqb}
+use Rattle.std.proofs.lemmas.Bool.{eqb-true, eq-eqb}
 use Rattle.ground.specs.Tests.{Lowest, all_in, all_out, and_in, and_l, and_r, any, any_in, any_out, implies_in, implies_out, same_test}
 use Rattle.ground.specs.Relations.{Holds, Rel}
 use Rattle.theory.specs.Graph.{Graph, Partner, Backed, Sim, Under, partner, served, backed, step, round, Stable, Rounds, Edge}
