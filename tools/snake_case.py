@@ -1,12 +1,13 @@
 #!/usr/bin/env python3
-"""Brings the names of definitions and lemmas to snake case, once, after the toolchain's port.py.
+"""Brought the names of definitions and lemmas to snake case, once, after the toolchain's port.py (docs/PORT.md).
 
-    python3 tools/snake_case.py            at the top of the repository
+    python3 tools/snake_case.py            at the top of the repository; where all names are in snake case it does nothing
 
 What is renamed is what the crates declare in specs/ and proofs/ with a small first letter: definitions, lemmas,
 record fields, and helpers below `where`. Types keep their capital. Functions of src/ keep their names. The same
-words are renamed where clauses of src/, imports, comments and the backticks of pages name them. Two names that
-would fall together, with each other or with a name that a file imports from elsewhere, stop the run.
+words are renamed where clauses of src/, imports, comments and the backticks of pages name them. Theorems
+NAME-determined keep their dashes. Two names that would fall together, with each other or with a name that a file
+imports from elsewhere, stop the run.
 """
 import pathlib
 import re
@@ -41,6 +42,10 @@ def main() -> int:
         for name in DECLARED.findall(f.read_text()):
             declared.setdefault(name, set()).add(str(f))
     renamed = {name: snake(name) for name in declared if snake(name) != name and not name.endswith("-determined")}
+
+    if not renamed:
+        print("0 names in 0 files")
+        return 0
 
     clashes = []
     taken: dict[str, str] = {}

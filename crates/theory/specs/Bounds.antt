@@ -71,11 +71,11 @@ module _ {ℓ} (T : Type 0) (Step : Kind → T → ℕ → ℕ → ℕ → T →
   Made done l x y z = ⊥
   Made (next {a = a} {b = b} {c = c} k s rest) l x y z = Is k a b c l x y z ⊎ Made rest l x y z
 
-  module _ (Later : T → T → Type 0) (Later-refl : (t : T) → Later t t) (Later-trans : (t u v : T) → Later t u → Later u v → Later t v)
+  module _ (Later : T → T → Type 0) (later_refl : (t : T) → Later t t) (later_trans : (t u v : T) → Later t u → Later u v → Later t v)
       (step_later : (k : Kind) (t : T) (a b c : ℕ) (u : T) → Step k t a b c u → Later t u) where
     pub script_later : {t v : T} → Script T Step t v → Later t v
-    script_later {t = t} done = Later-refl t
-    script_later (next {t = t} {u = u} {v = v} {a = a} {b = b} {c = c} k s rest) = Later-trans t u v (step_later k t a b c u s) (script_later rest)
+    script_later {t = t} done = later_refl t
+    script_later (next {t = t} {u = u} {v = v} {a = a} {b = b} {c = c} k s rest) = later_trans t u v (step_later k t a b c u s) (script_later rest)
 
     -- where a step's class is a bound in every later table, it is one in the script's last
     pub made_bound : (l : Kind) (R : T → ℕ → ℕ → Type 0)
