@@ -46,7 +46,7 @@ has_suc x j = let e : 1 + j ≡ suc j = omega arith in ap (λ (z : ℕ). eqb (z 
 pub has_zero : (j : ℕ) → has 0 j ≡ false
 has_zero j = rw (zero-div (2 ^ j))
 
--- the word with one set has
+-- the word with one bit set
 pub has_pow : (i j : ℕ) → has (2 ^ i) j ≡ eqb i j
 has_pow zero zero = refl
 has_pow zero (suc j) = has_suc 1 j ∙ has_zero j ∙ sym (eqb-zero-suc j)
@@ -60,7 +60,7 @@ same_low p q (inl e) (inr f) g = absurd (true≢false (sym (rw (e, f) at g)))
 same_low p q (inr e) (inl f) g = absurd (true≢false (rw (e, f) at g))
 same_low p q (inr e) (inr f) g = e ∙ sym f
 
--- two words of k hass with the same hass are one
+-- two words of k bits with the same bits are one
 pub same_bits : (k x y : ℕ) → x < 2 ^ k → y < 2 ^ k → ((i : ℕ) → i < k → has x i ≡ has y i) → x ≡ y
 same_bits zero x y h l f = lt-one h ∙ sym (lt-one l)
 same_bits (suc k) x y h l f =

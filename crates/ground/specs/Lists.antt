@@ -2,11 +2,13 @@
 -- What a loop that fills or copies a buffer has done so far is said with these. Runs of lists one after the other are in Runs.antt.
 use Rattle.std.specs.Prelude.{◌≡◌, refl, get_or, set}
 use Rattle.std.proofs.Math.Path.{sym, ap, ap₂}
-use Rattle.std.proofs.Common.{◌∙◌, inl, inr, arith, not-suc-le-zero, zero-add, suc-add, add-one, length-take, length-drop, take-append-drop, drop-cons, length-take-le, take-take, take-add, take_all, get_or-append-add, get_or-take, List, [], ◌∷◌, ◌++◌, append_assoc, ℕ, zero, suc, ◌+◌, ◌-◌, ◌≤◌, ◌<◌}
+use Rattle.std.proofs.Common.{◌∙◌, inl, inr, arith, not-suc-le-zero, mul-zero, mul-suc, zero-add, suc-add, add-one, length-take, length-drop, take-append-drop, drop-cons, length-take-le, take-take, take-add, take_all, get_or-append-add, get_or-take, List, [], ◌∷◌, ◌++◌, append_assoc, ℕ, zero, suc, ◌+◌, ◌*◌, ◌-◌, ◌≤◌, ◌<◌}
 use Rattle.std.proofs.Math.ListN.{length, take, drop, length-append, get_or-append}
 use Rattle.std.proofs.Math.Seq.{take_at, drop_at, drop-drop, append_snoc, take-nil, drop-append-add}
 use Rattle.std.proofs.lemmas.List.Edits.{sets, sets-eq}
 use Rattle.std.proofs.lemmas.List.{set_at, get_or_at, take-append-le, drop-append-le}
+use Rattle.std.specs.List.{concat}
+use Rattle.std.specs.Simd.{first_chunks}
 use Rattle.ground.specs.Tests.{lt_cases}
 
 -- ---- f 0, f 1, .., f (n - 1)
@@ -139,3 +141,24 @@ unfolding over
 over_at at i xs old h l =
     let q : at + i ≡ length (take at old) + i = omega (arith, length-take-le at old h) in
     ap (λ (z : ℕ). get_or (take at old ++ (xs ++ drop (at + length xs) old)) z 0) q ∙ get_or-append-add (take at old) (xs ++ drop (at + length xs) old) i 0 ∙ get_or-append xs _ 0 i l
+
+-- ---- a list cut into pieces of n entries, and pieces one after another
+
+module _ (n : ℕ) where
+  pub length_pieces : (k : ℕ) (l : List ℕ) → length (first_chunks n k l) ≡ k
+  length_pieces zero l = refl
+  length_pieces (suc k) l = ap suc (length_pieces k (drop n l))
+
+  pub concat_pieces : (k : ℕ) (l : List ℕ) → concat (first_chunks n k l) ≡ take (n * k) l
+  concat_pieces zero l = rw (mul-zero n)
+  concat_pieces (suc k) l =
+      let e : n * suc k ≡ n + n * k = mul-suc n k ∙ omega arith in
+      rw (concat_pieces k (drop n l), e) (sym (take-add n (n * k) l))
+
+  -- entry j of piece i, where every piece has n
+  pub piece_entry : (ps : List (List ℕ)) → ((i : ℕ) → i < length ps → length (get_or ps i []) ≡ n) → (i j : ℕ) → i < length ps → j < n → get_or (concat ps) (n * i + j) 0 ≡ get_or (get_or ps i []) j 0
+  piece_entry [] each i j h l = absurd (omega arith)
+  piece_entry (p ∷ ps) each zero j h l = let e : n * 0 + j ≡ j = omega arith in rw e (get_or-append p (concat ps) 0 j (let k = each 0 (omega arith) in omega arith))
+  piece_entry (p ∷ ps) each (suc i) j h l =
+      let e : n * suc i + j ≡ length p + (n * i + j) = let k = each 0 (omega arith) in omega (arith, mul-suc n i) in
+      rw (e, get_or-append-add p (concat ps) (n * i + j) 0) (piece_entry ps (λ k m. each (suc k) (omega arith)) i j (omega arith) l)

@@ -185,7 +185,7 @@ gather_at {A = A} (suc n) i j p f d l e h = elim (lt_cases l) [
 -- ---- ascending by a key: two such lists with the same members are one
 
 module _ {A : Type 0} (d : A) (key : A → ℕ) (inj : (x y : A) → key x ≡ key y → x ≡ y) where
-  -- as document 01 says it: each record is above the one before
+  -- each record is above the one before
   abbrev pub Ascending : List A → Type 0
   Ascending xs = (i : ℕ) → i + 1 < length xs → key (get_or xs i d) < key (get_or xs (i + 1) d)
 

@@ -1,7 +1,7 @@
 -- Tests over the numbers below a bound, as functions to Bool that compute: every number passes (`all`), some number does (`any`), and the lowest that does (`first`).
 -- A fact of a test is `t ≡ true`, as the branches of code hand it over. `all` and `any` recurse on the bound from above, which is the step of a loop that counts upward.
 -- How many numbers pass is in Counts.antt.
-use Rattle.std.specs.Prelude.{◌≡◌, refl, Bool, true, false, cond, not, ◌&&◌, ◌||◌, ◌⊎◌, ℕ, zero, suc, ◌+◌, ◌≤◌, ◌<◌, ltb}
+use Rattle.std.specs.Prelude.{◌≡◌, refl, Bool, true, false, cond, not, ◌&&◌, ◌||◌, ◌⊎◌, ℕ, zero, suc, ◌+◌, ◌≤◌, ◌<◌, ltb, Option, Some, None, unwrap_or}
 use Rattle.std.proofs.Common.{sym, ap, ap₂, inl, inr, arith, not-suc-le-zero, eq-or-lt_of_le, le_of_suc-le-suc, le_refl, add-one, ltb-false, le-ltb, lt-ltb}
 use Rattle.std.proofs.lemmas.Bool.{false≢true}
 
@@ -185,6 +185,11 @@ first_passes (suc n) p h = elim (bool_cases (p 0)) [
   | inr e ↦ let l : suc (first n (λ i. p (suc i))) < suc n = rw e at h in rw e (first_passes n (λ i. p (suc i)) (omega arith))
 ]
 
+pub first_ext : (n : ℕ) (p q : ℕ → Bool) → ((i : ℕ) → i < n → p i ≡ q i) → first n p ≡ first n q
+unfolding first
+first_ext zero p q e = refl
+first_ext (suc n) p q e = rw (e 0 (omega arith), first_ext n (λ i. p (suc i)) (λ i. q (suc i)) (λ i l. e (suc i) (omega arith)))
+
 -- as a refusal's test: some number below n passes exactly if the search ends before n
 pub first_clear : (n : ℕ) (p : ℕ → Bool) → ltb (first n p) n ≡ false → (i : ℕ) → i < n → p i ≡ false
 first_clear n p e i h = let k = ltb-false (first n p) n e in first_below n p i (omega arith)
@@ -197,3 +202,24 @@ first_hit r n p e h = lt-ltb (first n p) n (omega arith)
 
 pub first_miss : (r n : ℕ) (p : ℕ → Bool) → r ≡ first n p → n ≤ r → ltb (first n p) n ≡ false
 first_miss r n p e h = le-ltb (first n p) n (omega arith)
+
+-- ---- the same as an option: that number where there is one
+
+abbrev pub found : ℕ → (ℕ → Bool) → Option ℕ
+found n p = cond (ltb (first n p) n) (Some (first n p)) None
+
+pub found_some : (n i : ℕ) (p : ℕ → Bool) → i < n → p i ≡ true → ((k : ℕ) → k < i → p k ≡ false) → found n p ≡ Some i
+found_some n i p l e none = let q : first n p ≡ i = first_found n i p l (first_none i p none) e in rw (q, lt-ltb i n l)
+
+pub found_none : (n : ℕ) (p : ℕ → Bool) → ((k : ℕ) → k < n → p k ≡ false) → found n p ≡ None
+found_none n p none = rw (first_passed n p none)
+
+-- as a number again, n where there is none
+pub found_or : (n : ℕ) (p : ℕ → Bool) → unwrap_or (found n p) n ≡ first n p
+found_or n p = elim (bool_cases (ltb (first n p) n)) [
+  | inl e ↦ rw e
+  | inr e ↦ rw e (let h = ltb-false (first n p) n e in let k = first_le n p in omega arith)
+]
+
+pub found_ext : (n : ℕ) (p q : ℕ → Bool) → ((i : ℕ) → i < n → p i ≡ q i) → found n p ≡ found n q
+found_ext n p q e = rw (first_ext n p q e)

@@ -1,17 +1,15 @@
--- Paper 01, "The relation": what start, single round, whole run and question come to, for a table that is lent.
-use Rattle.std.specs.Prelude.{ℕ, suc, ◌*◌, Bool, true, false, not, List, ltb}
+-- What start, single round, whole run and question come to, for a table that is lent.
+use Rattle.std.specs.Prelude.{ℕ, suc, ◌*◌, Bool, not, List, ltb, Result, Ok}
 use Rattle.ground.specs.Tests.{first}
 use Rattle.ground.specs.Relations.{Rel, falls}
 use Rattle.theory.specs.Graph.{step, round}
 use Rattle.table.specs.Limits.{relation_length}
-use Rattle.table.specs.Answer.{refuse, ◌then◌}
+use Rattle.table.specs.Answer.{Outcome, refuse, ◌then◌}
 use Rattle.table.specs.Lent.{Lent, graph_of, fits}
 use Rattle.table.specs.Check.{check_of, known_of}
+use Rattle.table.specs.declared.Refusal.{Refusal}
 use Rattle.table.specs.declared.Refusal.TheVariants.{ShortBuffer}
-use Rattle.table.specs.declared.Outcome.{Outcome}
 use Rattle.relation.specs.Words.{bit_of}
-use Rattle.relation.specs.declared.Reply.{Reply}
-use Rattle.relation.specs.declared.Reply.TheVariants.{Yes, No}
 
 -- relation k of the table
 abbrev pub relation_at : Lent → ℕ → Rel
@@ -45,6 +43,5 @@ round_checks t words next = refuse (ltb words relation_length) ShortBuffer then 
 unfoldable pub ask_checks : Lent → ℕ → ℕ → Outcome
 ask_checks t a b = check_of t then known_of t.n a b
 
-abbrev pub reply_of : Bool → Reply
-reply_of true = Yes
-reply_of false = No
+abbrev pub reply_of : Bool → Result Bool Refusal
+reply_of t = Ok t

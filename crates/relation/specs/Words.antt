@@ -1,4 +1,4 @@
--- A relation in words, paper 01, "Sizes": four words for each row, the bit of row B and column A in word A / 64 of the row at A % 64.
+-- A relation in words: four words for each row, the bit of row B and column A in word A / 64 of the row at A % 64.
 -- Sets of pairs that other layers keep are held in the same way.
 use Rattle.std.specs.Prelude.{◌≡◌, refl, Bool, true, false, ◌&&◌, ◌||◌, List, ◌++◌, ℕ, ◌+◌, ◌*◌, ◌/◌, ◌%◌, ◌^◌, ◌≤◌, ◌<◌, eqb, ltb, length, set, drop, replicate}
 use Rattle.std.proofs.Math.Path.{sym, ap, ap₂}

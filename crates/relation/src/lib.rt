@@ -4,15 +4,8 @@
 ghost use Rattle.std.specs.Prelude.{◌≡◌, ℕ, ◌+◌, ◌*◌, ◌-◌, ◌/◌, ◌%◌, ◌^◌, ◌≤◌, ◌<◌, length, get_or, set};
 ghost use Rattle.relation.specs.Words.{bit_of, with_pair};
 
-// What a question is answered.
-#[derive(Clone, Copy)]
-pub enum Reply {
-    Yes,
-    No,
-    Refused(table::Refusal),
-}
-
-// Whether the pair of row b and column a is in a relation.
+// Whether the pair of row b and column a is in a relation. Both functions take any relation that C may lend, so it is no type of its own.
+#[tactic(auto, using(crate::specs::Words::bit_read))]
 pub fn holds(rel: &[u64], b: usize, a: usize) -> bool
     requires { (1024 ≤ length rel.now) × (b < 256) × (a < 256) }
     ensures { result ≡ bit_of rel.now b a }
@@ -21,6 +14,7 @@ pub fn holds(rel: &[u64], b: usize, a: usize) -> bool
 }
 
 // Puts the pair of row b and column a into a relation.
+#[tactic(auto, using(crate::specs::Words::pair_set))]
 pub fn put(rel: &mut [u64], b: usize, a: usize)
     requires { (1024 ≤ length rel.old) × (b < 256) × (a < 256) }
     ensures { rel.new ≡ with_pair rel.old b a }

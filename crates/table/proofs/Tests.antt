@@ -1,7 +1,26 @@
 -- What the check's tests come to.
-use Rattle.std.proofs.Common.{◌≡◌, false, ℕ, ◌/◌, ◌^◌, ◌<◌, arith}
+use Rattle.std.specs.Prelude.{ℕ, ◌≡◌, ◌≤◌, ◌<◌, ◌/◌, ◌^◌, Bool, false, ltb, Some, None, Ok, Err}
+use Rattle.std.proofs.Common.{inl, inr, arith}
+use Rattle.std.proofs.Math.Pow.{pow_mono}
+use Rattle.ground.specs.Tests.{first, found, bool_cases}
+use Rattle.table.specs.Answer.{refuse_first}
 use Rattle.table.specs.Check.{label_over}
+use Rattle.table.specs.declared.Refusal.{Refusal}
 
 -- no word has a label 64 or above
-pub not_over : (p x : ℕ) → p ≡ 64 → x < 2 ^ 64 → false ≡ label_over p x
-not_over p x e h = rw e (let z : x / 2 ^ 64 ≡ 0 = omega arith in rw z)
+pub not_over : (p x : ℕ) → 64 ≤ p → x < 2 ^ 64 → false ≡ label_over p x
+not_over p x h l = let w : 2 ^ 64 ≤ 2 ^ p = pow_mono h in let k : x < 2 ^ p = omega arith in let z : x / 2 ^ p ≡ 0 = grind arith in rw z
+
+module _ (n : ℕ) (p : ℕ → Bool) (r : ℕ → Refusal) where
+  -- a search that finds is a refusal, one that doesn't is none
+  pub refused : (i : ℕ) → found n p ≡ Some i → refuse_first n p r ≡ Err (r i)
+  refused i e = elim (bool_cases (ltb (first n p) n)) [
+    | inl t ↦ let k = rw t at e in let q : first n p ≡ i = cc in rw (t, q)
+    | inr t ↦ let k = rw t at e in absurd (let z : ◌≡◌ {A = ℕ} 0 1 = cc in omega arith)
+  ]
+
+  pub passed : found n p ≡ None → refuse_first n p r ≡ Ok tt
+  passed e = elim (bool_cases (ltb (first n p) n)) [
+    | inl t ↦ let k = rw t at e in absurd (let z : ◌≡◌ {A = ℕ} 0 1 = cc in omega arith)
+    | inr t ↦ rw t
+  ]

@@ -1,6 +1,6 @@
 -- An allowed table: within the limits, labels below p, edges in range and strictly ascending. The check refuses nothing exactly if the buffers are long enough
 -- and the table is allowed.
-use Rattle.std.specs.Prelude.{ℕ, zero, suc, ◌+◌, ◌-◌, ◌≤◌, ◌<◌, ◌≡◌, refl, true, ◌||◌, ◌⊎◌, ◌↔◌, length, ltb}
+use Rattle.std.specs.Prelude.{ℕ, zero, suc, ◌+◌, ◌-◌, ◌≤◌, ◌<◌, ◌≡◌, refl, true, ◌||◌, ◌⊎◌, ◌↔◌, length, ltb, Ok}
 use Rattle.std.proofs.Common.{sym, subst, ◌∙◌, true≢false, inl, inr, arith, add-sub_cancel, add-one}
 use Rattle.std.proofs.Math.Bool.{Bool, false, not}
 use Rattle.std.proofs.Math.Dec.{leb}
@@ -12,7 +12,6 @@ use Rattle.table.specs.Answer.{refuse, refuse_first, then_done, refuse_done, ref
 use Rattle.table.specs.Lent.{Lent, labels_of, source_of, role_of, target_of, graph_of}
 use Rattle.table.specs.Check.{too_short, over_limit, label_over, edge_before, label_wrong, edge_wrong, order_wrong, contents_of, check_of}
 use Rattle.table.specs.declared.Refusal.TheVariants.{OverLimit, LabelOutOfRange, EdgeOutOfRange, NotAscending, ShortBuffer}
-use Rattle.table.specs.declared.Outcome.TheVariants.{Done}
 
 pub record Allowed (t : Lent) : Type 0 where
   pub most_n : t.n ≤ class_limit
@@ -81,7 +80,7 @@ order_kept t A (suc i) l = rw (lt-ltb 0 (suc i) (omega arith), sym (add-one i), 
 
 -- ---- nothing is refused exactly if the buffers are long enough and the table is allowed
 
-pub contents_allowed : (t : Lent) → over_limit t.n t.m t.p t.q ≡ false → contents_of t ≡ Done → Allowed t
+pub contents_allowed : (t : Lent) → over_limit t.n t.m t.p t.q ≡ false → contents_of t ≡ Ok tt → Allowed t
 unfolding contents_of label_wrong
 contents_allowed t o e =
     let f = then_done (refuse_first t.n (label_wrong t.p t.labels) LabelOutOfRange) _ e in
@@ -101,7 +100,7 @@ contents_allowed t o e =
       ascending = λ i l. in_order t i (order (i + 1) l);
     }
 
-pub checked : (t : Lent) → check_of t ≡ Done → Long t × Allowed t
+pub checked : (t : Lent) → check_of t ≡ Ok tt → Long t × Allowed t
 unfolding check_of
 checked t e =
     let c = then_done (refuse (too_short t) ShortBuffer) _ e in
@@ -113,7 +112,7 @@ checked t e =
       contents_allowed t (refuse_done _ OverLimit d.0) d.1,
     )
 
-pub contents_right : (t : Lent) → Allowed t → contents_of t ≡ Done
+pub contents_right : (t : Lent) → Allowed t → contents_of t ≡ Ok tt
 unfolding contents_of label_wrong
 contents_right t A = rw (
   first_passed t.n (label_wrong t.p t.labels) A.labels,
@@ -121,7 +120,7 @@ contents_right t A = rw (
   first_passed t.m (order_wrong t.edges) (order_kept t A),
 )
 
-pub check_right : (t : Lent) → Long t → Allowed t → check_of t ≡ Done
+pub check_right : (t : Lent) → Long t → Allowed t → check_of t ≡ Ok tt
 unfolding check_of
 check_right t L A = rw (
   le-ltb _ _ L.labels,
@@ -129,5 +128,5 @@ check_right t L A = rw (
   limits_kept t.n t.m t.p t.q A.most_n A.most_m A.most_p A.most_q,
 ) (contents_right t A)
 
-pub checked_exactly : (t : Lent) → (check_of t ≡ Done) ↔ (Long t × Allowed t)
+pub checked_exactly : (t : Lent) → (check_of t ≡ Ok tt) ↔ (Long t × Allowed t)
 checked_exactly t = (checked t, λ x. check_right t x.0 x.1)

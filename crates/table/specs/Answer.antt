@@ -1,11 +1,9 @@
--- Paper 01, "Refusal numbers": the number and the place of each refusal, and how the checks of a call follow one another.
-use Rattle.std.specs.Prelude.{ℕ, ◌<◌, ◌≡◌, refl, Bool, true, false, List, ltb}
+-- The number and the place of each refusal, and how the checks of a call follow one another.
+use Rattle.std.specs.Prelude.{ℕ, ◌<◌, ◌≡◌, refl, Bool, true, false, List, ◌++◌, codes, decimal, ltb, Result, Ok, Err, ⊤}
 use Rattle.std.proofs.Common.{arith}
 use Rattle.ground.specs.Tests.{first, first_clear}
 use Rattle.table.specs.declared.Refusal.{Refusal}
 use Rattle.table.specs.declared.Refusal.TheVariants.{BadLength, BadCheck, BadBlock, OverLimit, LabelOutOfRange, EdgeOutOfRange, NotAscending, NoSuchClass, ShortBuffer, NoRoomForClasses, NoRoomForEdges}
-use Rattle.table.specs.declared.Outcome.{Outcome}
-use Rattle.table.specs.declared.Outcome.TheVariants.{Done, Refused}
 
 abbrev pub number_of : Refusal → ℕ
 number_of BadLength = 1
@@ -46,17 +44,25 @@ place_of ShortBuffer = 0
 place_of NoRoomForClasses = 0
 place_of NoRoomForEdges = 0
 
+-- `refused 3 at 1`
+abbrev pub text_of : Refusal → List ℕ
+text_of r = codes "refused " ++ (decimal (number_of r) ++ (codes " at " ++ decimal (place_of r)))
+
 -- ---- one check after another: the first that is not passed refuses
+
+-- what a call answers that has nothing to say but that it was done
+abbrev pub Outcome : Type 0
+Outcome = Result ⊤ Refusal
 
 infixr 20 ◌then◌
 abbrev pub ◌then◌ : Outcome → Outcome → Outcome
-Done then o = o
-(Refused r) then o = Refused r
+(Ok done) then o = o
+(Err r) then o = Err r
 
 -- a test that must fail
 abbrev pub refuse : Bool → Refusal → Outcome
-refuse true r = Refused r
-refuse false r = Done
+refuse true r = Err r
+refuse false r = Ok tt
 
 -- a test that must fail at each index below n: the lowest at which it holds is the place
 abbrev pub refuse_first : ℕ → (ℕ → Bool) → (ℕ → Refusal) → Outcome
@@ -64,23 +70,23 @@ refuse_first n bad r = refuse (ltb (first n bad) n) (r (first n bad))
 
 -- what a call with more to say answers: its own answer, or the refusal
 abbrev pub or_else {ℓ} : {A : Type ℓ} → (Refusal → A) → Outcome → A → A
-or_else refused Done answer = answer
-or_else refused (Refused r) answer = refused r
+or_else refused (Ok done) answer = answer
+or_else refused (Err r) answer = refused r
 
 -- a lent buffer after the call: as found where the call is refused
 abbrev pub after : Outcome → List ℕ → List ℕ → List ℕ
-after Done old new = new
-after (Refused r) old new = old
+after (Ok done) old new = new
+after (Err r) old new = old
 
 -- ---- nothing was refused exactly if every check was passed
 
-pub then_done : (a b : Outcome) → (a then b) ≡ Done → (a ≡ Done) × (b ≡ Done)
-then_done Done b e = (refl, e)
-then_done (Refused r) b e = absurd (let z : ◌≡◌ {A = ℕ} 0 1 = cc in omega arith)
+pub then_done : (a b : Outcome) → (a then b) ≡ Ok tt → (a ≡ Ok tt) × (b ≡ Ok tt)
+then_done (Ok done) b e = (refl, e)
+then_done (Err r) b e = absurd (let z : ◌≡◌ {A = ℕ} 0 1 = cc in omega arith)
 
-pub refuse_done : (t : Bool) (r : Refusal) → refuse t r ≡ Done → t ≡ false
+pub refuse_done : (t : Bool) (r : Refusal) → refuse t r ≡ Ok tt → t ≡ false
 refuse_done true r e = absurd (let z : ◌≡◌ {A = ℕ} 0 1 = cc in omega arith)
 refuse_done false r e = refl
 
-pub refuse_first_done : (n : ℕ) (bad : ℕ → Bool) (r : ℕ → Refusal) → refuse_first n bad r ≡ Done → (i : ℕ) → i < n → bad i ≡ false
+pub refuse_first_done : (n : ℕ) (bad : ℕ → Bool) (r : ℕ → Refusal) → refuse_first n bad r ≡ Ok tt → (i : ℕ) → i < n → bad i ≡ false
 refuse_first_done n bad r e = first_clear n bad (refuse_done (ltb (first n bad) n) (r (first n bad)) e)

@@ -1,10 +1,10 @@
--- What is wrong with a table in memory, in paper 01's order: 9, 4, 5, 6, 7; and with two classes asked for: 8.
-use Rattle.std.specs.Prelude.{ℕ, ◌-◌, ◌/◌, ◌^◌, Bool, not, ◌&&◌, ◌||◌, List, length, eqb, leb, ltb}
+-- What is wrong with a table in memory, in the order of the checks: 9, 4, 5, 6, 7; and with two classes asked for: 8.
+use Rattle.std.specs.Prelude.{ℕ, ◌-◌, ◌/◌, ◌^◌, Bool, not, ◌&&◌, ◌||◌, List, length, get_or, eqb, leb, ltb}
 use Rattle.table.specs.Limits.{class_limit, edge_limit, label_limit, role_limit, labels_length, edges_length}
-use Rattle.table.specs.Answer.{refuse, refuse_first, ◌then◌}
+use Rattle.table.specs.Answer.{Outcome, refuse, refuse_first, ◌then◌}
 use Rattle.table.specs.Lent.{Lent, labels_of, source_of, role_of, target_of}
 use Rattle.table.specs.declared.Refusal.TheVariants.{OverLimit, LabelOutOfRange, EdgeOutOfRange, NotAscending, NoSuchClass, ShortBuffer}
-use Rattle.table.specs.declared.Outcome.{Outcome}
+use Rattle.table.specs.declared.Edge.{Edge}
 
 -- 9: a lent buffer is below its length
 abbrev pub too_short : Lent → Bool
@@ -25,6 +25,10 @@ outside n q s r t = leb n s || (leb q r || leb n t)
 -- by source, then role, then target: one edge stands before another
 abbrev pub before : ℕ → ℕ → ℕ → ℕ → ℕ → ℕ → Bool
 before s r t s' r' t' = ltb s s' || (eqb s s' && (ltb r r' || (eqb r r' && ltb t t')))
+
+-- an edge's three numbers, as the code holds them
+abbrev pub edge_of : List ℕ → Edge
+edge_of numbers = record { source = get_or numbers 0 0; role = get_or numbers 1 0; target = get_or numbers 2 0 }
 
 -- the same of class i and of edge i; and 7: edge i does not stand after the edge before it
 unfoldable pub label_wrong : ℕ → List ℕ → ℕ → Bool

@@ -2,14 +2,13 @@
 use Rattle.std.specs.Prelude.{◌≡◌, Bool, List, ◌++◌, ℕ, ◌+◌, drop}
 use Rattle.std.proofs.Common.{sym, ◌∙◌}
 use Rattle.table.specs.Limits.{limits, lengths}
-use Rattle.table.specs.Answer.{number_of, place_of}
+use Rattle.table.specs.Answer.{number_of, place_of, Outcome}
 use Rattle.table.specs.Lent.{Lent}
 use Rattle.table.specs.Check.{over_limit, check_of, known_of}
 use Rattle.table.specs.Edges.{index_of}
 use Rattle.table.specs.declared.Table.{Table}
 use Rattle.table.specs.declared.Lengths.{Lengths}
 use Rattle.table.specs.declared.Refusal.{Refusal}
-use Rattle.table.specs.declared.Outcome.{Outcome}
 
 -- two values that one equation allows are equal
 pub same {ℓ} : {A : Type ℓ} {x y z : A} → x ≡ z → y ≡ z → x ≡ y

@@ -1,6 +1,7 @@
 -- A table as it is lent: four counts, the classes' label words, and the edges as source, role, target, three numbers each. Entries past the counts are ignored.
--- The same lists as a description graph with paper 01's start rule: this is the one place where labels are read.
-use Rattle.std.specs.Prelude.{ℕ, ◌+◌, ◌*◌, ◌<◌, ◌≡◌, true, ◌&&◌, List, get_or, ltb}
+-- The same lists as a description graph with the start rule of labels: this is the one place where labels are read.
+use Rattle.std.specs.Prelude.{ℕ, ◌+◌, ◌*◌, ◌<◌, ◌≡◌, true, ◌&&◌, List, length, get_or, ltb}
+use Rattle.std.specs.List.{concat}
 use Rattle.std.proofs.Math.Bool.{Bool}
 use Rattle.std.proofs.lemmas.Bool.{ltb-true, lt-ltb}
 use Rattle.ground.specs.Tests.{and_in, and_l, and_r}
@@ -19,6 +20,10 @@ pub record Lent : Type 0 where
 
 abbrev pub lent : Table → List ℕ → List ℕ → Lent
 lent t ls es = record { n = t.n; m = t.m; p = t.p; q = t.q; labels = ls; edges = es }
+
+-- the same of buffers that hold what the counts say and nothing more: each class's labels, and each edge's three numbers
+abbrev pub given : List ℕ → List (List ℕ) → ℕ → ℕ → Lent
+given ls es p q = record { n = length ls; m = length es; p = p; q = q; labels = ls; edges = concat es }
 
 -- the labels of class i, and the source, role and target of edge i
 abbrev pub labels_of : List ℕ → ℕ → ℕ

@@ -1,4 +1,4 @@
--- Paper 01, "Sizes": the limits of a table, and the lengths of lent buffers that follow from them. The code's are the constants of `Table`,
+-- The limits of a table, and the lengths of lent buffers that follow from them. The code's are the constants of `Table`,
 -- and the contracts of `Table::limits` and `Table::lengths` pin each to the number here.
 use Rattle.std.specs.Prelude.{ℕ}
 use Rattle.table.specs.declared.Table.{Table}

@@ -1,30 +1,28 @@
 -- No place is large: it is a block, a class, an edge, or 0 or 1. So a place always fits the 16 bits that an exported answer gives it.
-use Rattle.std.specs.Prelude.{ℕ, ◌≤◌, ◌<◌, ◌≡◌, refl, Bool, true, false, leb, ltb}
+use Rattle.std.specs.Prelude.{ℕ, ◌≤◌, ◌<◌, ◌≡◌, refl, Bool, true, false, leb, ltb, Ok, Err}
 use Rattle.std.proofs.Common.{sym, ap, subst, ◌∙◌, inl, inr, arith, ltb-true}
 use Rattle.ground.specs.Tests.{first, bool_cases}
 use Rattle.table.specs.Limits.{class_limit, edge_limit}
-use Rattle.table.specs.Answer.{place_of, refuse, refuse_first, ◌then◌, refuse_done}
+use Rattle.table.specs.Answer.{Outcome, place_of, refuse, refuse_first, ◌then◌, refuse_done}
 use Rattle.table.specs.Lent.{Lent}
 use Rattle.table.specs.Check.{too_short, over_limit, label_wrong, edge_wrong, order_wrong, contents_of, check_of, known_of}
 use Rattle.table.specs.Allowed.{within_limits}
 use Rattle.table.specs.declared.Refusal.{Refusal}
 use Rattle.table.specs.declared.Refusal.TheVariants.{OverLimit, LabelOutOfRange, EdgeOutOfRange, NotAscending, NoSuchClass, ShortBuffer}
-use Rattle.table.specs.declared.Outcome.{Outcome}
-use Rattle.table.specs.declared.Outcome.TheVariants.{Done, Refused}
 
 -- where o refuses, its place is below k
 abbrev pub Places : ℕ → Outcome → Type 0
-Places k o = (r : Refusal) → o ≡ Refused r → place_of r < k
+Places k o = (r : Refusal) → o ≡ Err r → place_of r < k
 
-pub done_places : (k : ℕ) → Places k Done
+pub done_places : (k : ℕ) → Places k (Ok tt)
 done_places k r e = absurd (let z : ◌≡◌ {A = ℕ} 0 1 = cc in omega arith)
 
-pub refused_places : (k : ℕ) (x : Refusal) → place_of x < k → Places k (Refused x)
+pub refused_places : (k : ℕ) (x : Refusal) → place_of x < k → Places k (Err x)
 refused_places k x h r e = let q : x ≡ r = cc in subst (λ (y : Refusal). place_of y < k) q h
 
-pub then_places : (k : ℕ) (a b : Outcome) → Places k a → (a ≡ Done → Places k b) → Places k (a then b)
-then_places k Done b h l = l refl
-then_places k (Refused x) b h l = h
+pub then_places : (k : ℕ) (a b : Outcome) → Places k a → (a ≡ Ok tt → Places k b) → Places k (a then b)
+then_places k (Ok done) b h l = l refl
+then_places k (Err x) b h l = h
 
 pub refuse_places : (k : ℕ) (t : Bool) (x : Refusal) → place_of x < k → Places k (refuse t x)
 refuse_places k true x h = refused_places k x h

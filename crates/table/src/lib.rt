@@ -1,16 +1,20 @@
 // The table in memory: its own type with the limits, the answers of a call, the check 9, 4, 5, 6, 7, and an index of first edges for the layers above.
 #![tactic(auto)]
 
-ghost use Rattle.std.specs.Prelude.{◌≡◌, ◌++◌, ℕ, ◌+◌, ◌*◌, ◌-◌, ◌≤◌, ◌<◌, length, get_or, drop};
-ghost use Rattle.ground.specs.Tests.{first};
+ghost use Rattle.std.specs.Prelude.{◌≡◌, Some, ◌++◌, ℕ, Bool, ◌+◌, ◌*◌, ◌-◌, ◌≤◌, ◌<◌, length, get_or, take, drop};
+ghost use Rattle.std.specs.List.{concat};
+ghost use Rattle.ground.specs.Tests.{found};
 ghost use Rattle.table.specs.Limits.{limits, lengths};
-ghost use Rattle.table.specs.Answer.{number_of, place_of};
-ghost use Rattle.table.specs.Lent.{lent};
-ghost use Rattle.table.specs.Check.{over_limit, label_over, outside, before, label_wrong, edge_wrong, order_wrong, contents_of, check_of, known_of};
-ghost use Rattle.table.specs.Edges.{index_of};
+ghost use Rattle.table.specs.Answer.{number_of, place_of, text_of};
+ghost use Rattle.table.specs.Lent.{lent, given, source_of};
+ghost use Rattle.table.specs.Check.{over_limit, label_over, outside, before, label_wrong, edge_wrong, order_wrong, contents_of, check_of, known_of, edge_of};
+ghost use Rattle.table.specs.Edges.{first_edge, index_of};
+
+use std::error::Error;
+use std::fmt;
 
 // A table's counts: classes, edges, labels, roles. Its labels and edges are lent beside it.
-#[derive(Clone, Copy)]
+#[derive(Clone, Copy, Debug, PartialEq, Eq)]
 pub struct Table {
     pub n: usize,
     pub m: usize,
@@ -19,7 +23,7 @@ pub struct Table {
 }
 
 // How long lent buffers are at least.
-#[derive(Clone, Copy)]
+#[derive(Clone, Copy, Debug, PartialEq, Eq)]
 pub struct Lengths {
     pub labels: usize,
     pub edges: usize,
@@ -66,7 +70,7 @@ impl Table {
 }
 
 // Why a call is refused, named for what is wrong. The number that a variant holds is the place.
-#[derive(Clone, Copy)]
+#[derive(Clone, Copy, Debug, PartialEq, Eq)]
 pub enum Refusal {
     BadLength,
     BadCheck(usize),
@@ -82,7 +86,7 @@ pub enum Refusal {
 }
 
 impl Refusal {
-    // The paper's number.
+    // The refusal's number, in whose place C has no enum.
     pub fn number(self) -> usize
         ensures { result ≡ number_of self }
     {
@@ -101,7 +105,7 @@ impl Refusal {
         }
     }
 
-    // The paper's place.
+    // The refusal's place, which C is given beside the number.
     pub fn place(self) -> usize
         ensures { result ≡ place_of self }
     {
@@ -121,213 +125,163 @@ impl Refusal {
     }
 }
 
-// What a call answers that has nothing to say but that it was done.
-#[derive(Clone, Copy)]
-pub enum Outcome {
-    Done,
-    Refused(Refusal),
+impl fmt::Display for Refusal {
+    ghost output = { λ r. Some (text_of r) };
+
+    fn fmt<W: fmt::Write>(&self, f: &mut fmt::Formatter<W>) -> fmt::Result {
+        write!(f, "refused {} at {}", self.number(), self.place())
+    }
+}
+
+impl Error for Refusal {}
+
+// An edge. Edges are ordered by source, then role, then target.
+#[derive(Clone, Copy, Debug, PartialEq, Eq, PartialOrd, Ord)]
+struct Edge {
+    source: u16,
+    role: u16,
+    target: u16,
+}
+
+impl From<[u16; 3]> for Edge {
+    ghost from_gives = { λ numbers edge. edge ≡ edge_of numbers };
+
+    fn from([source, role, target]: [u16; 3]) -> Edge {
+        Edge {
+            source,
+            role,
+            target,
+        }
+    }
+}
+
+impl Edge {
+    // Whether it stands before another.
+    fn is_before(self, other: Edge) -> bool
+        ensures { result ≡ before self.source self.role self.target other.source other.role other.target }
+    {
+        self < other
+    }
+
+    // Whether it has a class n or above, or a role q or above.
+    fn is_outside(self, n: usize, q: usize) -> bool
+        ensures { result ≡ outside n q self.source self.role self.target }
+    {
+        n <= self.source as usize || q <= self.role as usize || n <= self.target as usize
+    }
 }
 
 // Whether a label set has a label p or above. No word is shifted by 64.
+#[tactic(auto, using(crate::proofs::Tests::not_over))]
 fn over(x: u64, p: usize) -> bool
-    requires { p ≤ 64 }
     ensures { result ≡ label_over p x }
 {
-    if p < Table::LABELS {
-        (x >> p) != 0
-    } else {
-        false
-    }
+    p < Table::LABELS && (x >> p) != 0
 }
 
-// Whether an edge has source or target n or above, or role q or above.
-fn is_outside(n: usize, q: usize, s: u16, r: u16, t: u16) -> bool
-    ensures { result ≡ outside n q s r t }
+// The lowest class with a label p or above.
+fn bad_label(labels: &[u64], p: usize) -> Option<usize>
+    ensures { result ≡ found (length labels.now) (label_wrong p labels.now) }
 {
-    if n <= s as usize {
-        return true;
-    }
-    if q <= r as usize {
-        return true;
-    }
-    n <= t as usize
+    labels.iter().position(|&set| over(set, p))
 }
 
-// Whether an edge stands before another.
-fn is_before(s: u16, r: u16, t: u16, s2: u16, r2: u16, t2: u16) -> bool
-    ensures { result ≡ before s r t s2 r2 t2 }
+// The lowest edge with a class n or above, or a role q or above.
+fn bad_edge(edges: &[[u16; 3]], n: usize, q: usize) -> Option<usize>
+    ensures { result ≡ found (length edges.now) (edge_wrong n q (concat edges.now)) }
 {
-    if s < s2 {
-        return true;
-    }
-    if s2 < s {
-        return false;
-    }
-    if r < r2 {
-        return true;
-    }
-    if r2 < r {
-        return false;
-    }
-    t < t2
+    edges
+        .iter()
+        .position(|&edge| Edge::from(edge).is_outside(n, q))
 }
 
-// The lowest class with a label p or above, or n.
-fn bad_label(labels: &[u64], n: usize, p: usize) -> usize
-    requires { (n ≤ length labels.now) × (p ≤ 64) }
-    ensures { result ≡ first n (label_wrong p labels.now) }
+// The lowest edge that does not stand after the edge before it.
+fn bad_order(edges: &[[u16; 3]]) -> Option<usize>
+    ensures { result ≡ found (length edges.now) (order_wrong (concat edges.now)) }
 {
-    let mut i: usize = 0;
-    while i < n {
-        if over(labels[i], p) {
-            return i;
-        }
-        i += 1;
-    }
-    i
+    (1..edges.len()).find(|&j| !Edge::from(edges[j - 1]).is_before(Edge::from(edges[j])))
 }
 
-// The lowest edge that is out of range, or m.
-fn bad_edge(edges: &[u16], n: usize, m: usize, q: usize) -> usize
-    requires { 3 * m ≤ length edges.now }
-    ensures { result ≡ first m (edge_wrong n q edges.now) }
+// 5, 6, 7, of as many classes and edges as are given.
+#[tactic(auto, using(crate::proofs::Tests::refused, crate::proofs::Tests::passed), unfolding(crate::specs::Check::contents_of))]
+fn contents(labels: &[u64], edges: &[[u16; 3]], p: usize, q: usize) -> Result<(), Refusal>
+    ensures { result ≡ contents_of (given labels.now edges.now p q) }
 {
-    let mut j: usize = 0;
-    while j < m {
-        let i = 3 * j;
-        if is_outside(n, q, edges[i], edges[i + 1], edges[i + 2]) {
-            return j;
-        }
-        j += 1;
+    if let Some(class) = bad_label(labels, p) {
+        return Err(Refusal::LabelOutOfRange(class));
     }
-    j
+    if let Some(edge) = bad_edge(edges, labels.len(), q) {
+        return Err(Refusal::EdgeOutOfRange(edge));
+    }
+    if let Some(later) = bad_order(edges) {
+        return Err(Refusal::NotAscending(later));
+    }
+    Ok(())
 }
 
-// Whether edge j does not stand after the edge before it.
-fn misplaced(edges: &[u16], j: usize) -> bool
-    requires { 3 * j + 3 ≤ length edges.now }
-    ensures { result ≡ order_wrong edges.now j }
+// The first m edges of a table's numbers.
+fn edges_of(numbers: &[u16], m: usize) -> &[[u16; 3]]
+    requires { 3 * m ≤ length numbers.now }
+    ensures count { length result.now ≡ m }
+    ensures same { concat result.now ≡ take (3 * m) numbers.now }
 {
-    if j == 0 {
-        return false;
-    }
-    let h = 3 * (j - 1);
-    let i = 3 * j;
-    !is_before(
-        edges[h],
-        edges[h + 1],
-        edges[h + 2],
-        edges[i],
-        edges[i + 1],
-        edges[i + 2],
-    )
-}
-
-// The lowest edge that does not stand after the edge before it, or m.
-fn bad_order(edges: &[u16], m: usize) -> usize
-    requires { 3 * m ≤ length edges.now }
-    ensures { result ≡ first m (order_wrong edges.now) }
-{
-    let mut j: usize = 0;
-    while j < m {
-        if misplaced(edges, j) {
-            return j;
-        }
-        j += 1;
-    }
-    j
-}
-
-// 5, 6, 7.
-fn contents(t: Table, labels: &[u64], edges: &[u16]) -> Outcome
-    requires { (t.n ≤ length labels.now) × (t.p ≤ 64) × (3 * t.m ≤ length edges.now) }
-    ensures { result ≡ contents_of (lent t labels.now edges.now) }
-{
-    let n = t.n;
-    let m = t.m;
-    let class = bad_label(labels, n, t.p);
-    if class < n {
-        return Outcome::Refused(Refusal::LabelOutOfRange(class));
-    }
-    let edge = bad_edge(edges, n, m, t.q);
-    if edge < m {
-        return Outcome::Refused(Refusal::EdgeOutOfRange(edge));
-    }
-    let later = bad_order(edges, m);
-    if later < m {
-        return Outcome::Refused(Refusal::NotAscending(later));
-    }
-    Outcome::Done
+    numbers[..3 * m].as_chunks().0
 }
 
 // Whether a count is above its limit.
 pub fn over_limit(t: Table) -> bool
     ensures { result ≡ over_limit t.n t.m t.p t.q }
 {
-    let n = t.n;
-    let m = t.m;
-    let p = t.p;
-    let q = t.q;
-    if Table::CLASSES < n {
-        return true;
-    }
-    if Table::EDGES < m {
-        return true;
-    }
-    if Table::LABELS < p {
-        return true;
-    }
-    if Table::ROLES < q {
-        return true;
-    }
-    false
+    Table::CLASSES < t.n || Table::EDGES < t.m || Table::LABELS < t.p || Table::ROLES < t.q
 }
 
-// Whether a table in memory is allowed: 9, 4, 5, 6, 7.
-pub fn check(t: Table, labels: &[u64], edges: &[u16]) -> Outcome
+// Whether a table in memory is allowed: 9, 4, 5, 6, 7. The counts stand beside the buffers, which are lent as C lends them and may be longer.
+#[tactic(auto, unfolding(crate::specs::Check::check_of))]
+pub fn check(t: Table, labels: &[u64], edges: &[u16]) -> Result<(), Refusal>
     ensures { result ≡ check_of (lent t labels.now edges.now) }
 {
-    if labels.len() < Table::CLASSES {
-        return Outcome::Refused(Refusal::ShortBuffer);
-    }
-    if edges.len() < Table::NUMBERS {
-        return Outcome::Refused(Refusal::ShortBuffer);
+    if labels.len() < Table::CLASSES || edges.len() < Table::NUMBERS {
+        return Err(Refusal::ShortBuffer);
     }
     if over_limit(t) {
-        return Outcome::Refused(Refusal::OverLimit);
+        return Err(Refusal::OverLimit);
     }
-    contents(t, labels, edges)
+    contents(&labels[..t.n], edges_of(edges, t.m), t.p, t.q)
 }
 
 // Whether the classes a and b are there: 8.
-pub fn known(t: Table, a: usize, b: usize) -> Outcome
+pub fn known(t: Table, a: usize, b: usize) -> Result<(), Refusal>
     ensures { result ≡ known_of t.n a b }
 {
-    let n = t.n;
-    if n <= a {
-        return Outcome::Refused(Refusal::NoSuchClass(0));
+    if t.n <= a {
+        return Err(Refusal::NoSuchClass(0));
     }
-    if n <= b {
-        return Outcome::Refused(Refusal::NoSuchClass(1));
+    if t.n <= b {
+        return Err(Refusal::NoSuchClass(1));
     }
-    Outcome::Done
+    Ok(())
 }
 
-// For each class, and for n, the first of m edges whose source is that class or a later one.
+// The first edge whose source is class c or a later one, or how many there are; no edge before `from` has such a source. `index` promises this of edges in
+// any order too, so no search by halves serves.
+fn edge_from(edges: &[[u16; 3]], from: usize, c: usize) -> usize
+    requires { (e : ℕ) → e < from → source_of (concat edges.now) e < c }
+    ensures { result ≡ first_edge (concat edges.now) (length edges.now) c }
+{
+    (from..edges.len())
+        .find(|&j| Edge::from(edges[j]).source as usize >= c)
+        .unwrap_or(edges.len())
+}
+
+// For each class, and for n, the first of m edges whose source is that class or a later one. The clause speaks of buffers longer than m and n say, so these stand beside.
 pub fn index(edges: &[u16], m: usize, n: usize, first: &mut [u16])
     requires { (3 * m ≤ length edges.now) × (m ≤ 1024) × (n < length first.old) }
     ensures { first.new ≡ index_of edges.now m n ++ drop (n + 1) first.old }
 {
-    let mut c = 0;
-    let mut e = 0;
-    while c <= n {
-        while e < m {
-            if edges[3 * e] as usize >= c {
-                break;
-            }
-            e += 1;
-        }
-        first[c] = e as u16;
-        c += 1;
+    let edges = edges_of(edges, m);
+    let mut from = 0;
+    for c in 0..=n {
+        from = edge_from(edges, from, c);
+        first[c] = from as u16;
     }
 }

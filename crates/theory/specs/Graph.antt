@@ -1,5 +1,5 @@
 -- Description graphs, simulations from one graph to another, and the rounds. The start rule `fits` is a parameter: labels within labels is one instance.
--- The definitions follow paper 01, "The relation", sentence by sentence; (b, a) is the pair with b above.
+-- (b, a) is the pair with b above.
 use Rattle.std.specs.Prelude.{◌≡◌, Bool, true, not, ◌&&◌, ◌||◌, ℕ, zero, suc, ◌<◌, eqb}
 use Rattle.ground.specs.Tests.{all, any}
 use Rattle.ground.specs.Relations.{Holds, Rel}

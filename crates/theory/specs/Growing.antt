@@ -1,4 +1,4 @@
--- One growing table: what a common or a joint step made stays a bound in every later table, so order and grouping make no difference (demand 3).
+-- One growing table: what a common or a joint step made stays a bound in every later table, so order and grouping make no difference.
 -- A bound in the table that a step left would not do: a later step could make a class between (see docs/DECISIONS.md). The start rule is a parameter of `Family`.
 use Rattle.std.specs.Prelude.{◌≡◌, refl, true, ◌↔◌, ℕ, ◌≤◌, ◌<◌}
 use Rattle.std.proofs.Common.{sym, subst, ◌∙◌, inl, inr}
@@ -88,7 +88,7 @@ module _ {T : Type 0} (F : Family T) where
   older_stay t u x = old_answers (F.graph t) (F.graph u) (F.appended t u x) (F.closed t) (F.fits t) (F.fits u) (F.agree t u x)
       (F.graph t).size (F.graph u).size (F.inside t) (F.inside u)
 
-  -- a step over a and b that makes c and leaves u. The start rule's part is asked for in every later table: see `OwnTable.antt`.
+  -- a step over a and b that makes c and leaves u. The start rule's part is asked for in every later table, since a bound in its own table would not do.
   pub record CommonStep (t : T) (a b c : ℕ) (u : T) : Type 1 where
     pub later : F.Later t u
     pub Meets : ℕ → ℕ → ℕ → Type 0

@@ -1,4 +1,4 @@
--- The common class as paper 01 makes it: a new class for each reachable pair, numbered from n upward by row, then column, whose edges are the steps.
+-- The common class as it is made: a new class for each reachable pair, numbered from n upward by row, then column, whose edges are the steps.
 use Rattle.std.specs.Prelude.{◌≡◌, refl, true, ℕ, ◌+◌, ◌<◌}
 use Rattle.std.proofs.Common.{sym, subst, ◌∙◌}
 use Rattle.ground.specs.Relations.{Inside, Rel, pairs, rank}

@@ -1,19 +1,11 @@
--- Where the test of edge j holds, j is the lowest; where it doesn't, no edge up to j is out of range.
-use Rattle.std.proofs.Common.{arith, sym, ◌∙◌}
-use Rattle.ground.specs.Tests.{first_start, first_more, first_found}
-use Rattle.table.specs.Check.{edge_wrong}
+use Rattle.std.proofs.Common.{rules, List, ℕ, [], get_or}
+use Rattle.std.specs.List.{concat}
+use Rattle.std.proofs.lemmas.Iterator.{YieldsList-from_slice}
+use Rattle.ground.specs.Search.{found_at}
+use Rattle.table.specs.Check.{outside, edge_wrong}
+use Rattle.table.proofs.Cut.{edge_piece}
 use Rattle.table.proofs.bad_edge.Goals as goal
 
-pub loop-j-init : goal.loop-j-init
-loop-j-init c = record { inside = omega arith; none = first_start _ }
-
-pub returns-then-is_outside : goal.returns-then-is_outside
-unfolding edge_wrong
-returns-then-is_outside c = sym (first_found c.args.m c.loop-j.j (edge_wrong c.args.n c.args.q c.args.edges.now) c.loop-j-test.true c.loop-j.invariant.none (sym c.is_outside.ensures ∙ c.if-is_outside.true))
-
-pub loop-j-preserved : goal.loop-j-preserved
-unfolding edge_wrong
-loop-j-preserved c = record {
-  inside = omega arith;
-  none = first_more c.loop-j.j (edge_wrong c.args.n c.args.q c.args.edges.now) c.loop-j.invariant.none (sym c.is_outside.ensures ∙ c.if-is_outside.false);
-}
+pub returns : goal.returns
+returns c = found_at (λ (e : List ℕ). outside c.args.n c.args.q (get_or e 0 0) (get_or e 1 0) (get_or e 2 0)) [] (edge_wrong c.args.n c.args.q (concat c.args.edges.now)) _ _ _
+    c.position.ensures.ran (YieldsList-from_slice c.args.edges.now c.iter.ensures.rest) (λ x b q k. search rules) (edge_piece c.args.edges.now c.told-edges c.args.n c.args.q)

@@ -1,19 +1,9 @@
--- Where the test of class i holds, i is the lowest; where it doesn't, no class up to i is wrong.
-use Rattle.std.proofs.Common.{arith, sym, ◌∙◌}
-use Rattle.ground.specs.Tests.{first_start, first_more, first_found}
-use Rattle.table.specs.Check.{label_wrong}
+use Rattle.std.proofs.Common.{rules, refl}
+use Rattle.std.proofs.lemmas.Iterator.{YieldsList-from_slice}
+use Rattle.ground.specs.Search.{found_at}
+use Rattle.table.specs.Check.{label_over, label_wrong}
 use Rattle.table.proofs.bad_label.Goals as goal
 
-pub loop-i-init : goal.loop-i-init
-loop-i-init c = record { inside = omega arith; none = first_start _ }
-
-pub returns-then-over : goal.returns-then-over
+pub returns : goal.returns
 unfolding label_wrong
-returns-then-over c = sym (first_found c.args.n c.loop-i.i (label_wrong c.args.p c.args.labels.now) c.loop-i-test.true c.loop-i.invariant.none (sym c.over.ensures ∙ c.if-over.true))
-
-pub loop-i-preserved : goal.loop-i-preserved
-unfolding label_wrong
-loop-i-preserved c = record {
-  inside = omega arith;
-  none = first_more c.loop-i.i (label_wrong c.args.p c.args.labels.now) c.loop-i.invariant.none (sym c.over.ensures ∙ c.if-over.false);
-}
+returns c = found_at (label_over c.args.p) 0 (label_wrong c.args.p c.args.labels.now) _ _ _ c.position.ensures.ran (YieldsList-from_slice c.args.labels.now c.iter.ensures.rest) (λ x b q k. search rules) (λ i l. refl)
