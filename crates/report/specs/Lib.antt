@@ -1,3 +1,4 @@
 -- What the programs print, as bytes.
 pub mod Text
 pub mod Listing
+pub mod Given

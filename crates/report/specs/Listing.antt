@@ -1,56 +1,37 @@
--- The listing's lines, paper 01, "Examples on both sides": a header with the counts and rounds, then for each class B the classes under it, ascending.
-use Rattle.std.specs.Prelude.{ℕ, zero, suc, ◌+◌, ◌*◌, ◌≤◌, ◌<◌, ◌≡◌, refl, Bool, true, false, length, List, [], ◌∷◌, ◌++◌}
+-- The listing's lines: a header with the counts and rounds, then for each class B the classes under it, ascending.
+use Rattle.std.specs.Prelude.{ℕ, zero, suc, ◌+◌, ◌*◌, ◌≤◌, ◌<◌, ◌≡◌, refl, Bool, true, false, length, ltb, List, [], ◌++◌, codes, decimal}
 use Rattle.std.proofs.Common.{sym, ap, inl, inr, arith, add-one, length-append}
 use Rattle.ground.specs.Tests.{bool_cases}
 use Rattle.ground.specs.Relations.{Rel}
-use Rattle.ground.specs.Runs.{cat, gather, gather_yes, gather_no}
-use Rattle.table.specs.Answer.{number_of, place_of}
+use Rattle.ground.specs.Runs.{cat, cat_more, gather, gather_yes, gather_no}
+use Rattle.table.specs.Limits.{class_limit, relation_length}
+use Rattle.table.specs.Answer.{Outcome, number_of, place_of, number_lt, text_of, refuse, ◌then◌}
+use Rattle.table.specs.declared.Refusal.TheVariants.{ShortBuffer, OverLimit}
 use Rattle.table.specs.declared.Refusal.{Refusal}
-use Rattle.report.specs.Text.{decimal, length_decimal}
-
--- the words of the lines, as their bytes
-abbrev pub classes_word : List ℕ
-classes_word = 99 ∷ 108 ∷ 97 ∷ 115 ∷ 115 ∷ 101 ∷ 115 ∷ 32 ∷ []
-
-abbrev pub edges_word : List ℕ
-edges_word = 32 ∷ 101 ∷ 100 ∷ 103 ∷ 101 ∷ 115 ∷ 32 ∷ []
-
-abbrev pub rounds_word : List ℕ
-rounds_word = 32 ∷ 114 ∷ 111 ∷ 117 ∷ 110 ∷ 100 ∷ 115 ∷ 32 ∷ []
-
-abbrev pub refused_word : List ℕ
-refused_word = 114 ∷ 101 ∷ 102 ∷ 117 ∷ 115 ∷ 101 ∷ 100 ∷ 32 ∷ []
-
-abbrev pub at_word : List ℕ
-at_word = 32 ∷ 97 ∷ 116 ∷ 32 ∷ []
-
-abbrev pub space : ℕ
-space = 32
-
-abbrev pub colon : ℕ
-colon = 58
-
-abbrev pub newline : ℕ
-newline = 10
+use Rattle.std.proofs.lemmas.Fmt.{length-decimal-le}
 
 -- `classes 6 edges 4 rounds 2`
-unfoldable pub header_of : ℕ → ℕ → ℕ → List ℕ
-header_of n m k = (classes_word ++ decimal n) ++ ((edges_word ++ decimal m) ++ ((rounds_word ++ decimal k) ++ (newline ∷ [])))
+abbrev pub header_of : ℕ → ℕ → ℕ → List ℕ
+header_of n m k = codes "classes " ++ (decimal n ++ (codes " edges " ++ (decimal m ++ (codes " rounds " ++ (decimal k ++ codes "\n")))))
 
 -- a space and the number, for each class below n that passes
 unfoldable pub names_of : ℕ → (ℕ → Bool) → List ℕ
-names_of n p = gather n p (λ a. space ∷ decimal a)
+names_of n p = gather n p (λ a. codes " " ++ decimal a)
 
 -- `3: 0 3`
 unfoldable pub line_of : ℕ → Rel → ℕ → List ℕ
-line_of n r b = decimal b ++ ((colon ∷ []) ++ (names_of n (r b) ++ (newline ∷ [])))
+line_of n r b = decimal b ++ (codes ":" ++ (names_of n (r b) ++ codes "\n"))
 
 unfoldable pub lines_of : ℕ → Rel → ℕ → List ℕ
 lines_of n r k = cat k (line_of n r)
 
 -- `refused 3 at 1`
-unfoldable pub refused_line : Refusal → List ℕ
-refused_line r = (refused_word ++ decimal (number_of r)) ++ ((at_word ++ decimal (place_of r)) ++ (newline ∷ []))
+abbrev pub refused_line : Refusal → List ℕ
+refused_line r = text_of r ++ codes "\n"
+
+-- a listing's lines take a relation of 1,024 words and at most 256 classes
+abbrev pub listing_checks : ℕ → ℕ → Outcome
+listing_checks n words = refuse (ltb words relation_length) ShortBuffer then refuse (ltb class_limit n) OverLimit
 
 -- ---- one class more, and how long a line is
 
@@ -58,22 +39,48 @@ pub names_zero : (p : ℕ → Bool) → [] ≡ names_of 0 p
 unfolding names_of gather cat
 names_zero p = refl
 
-pub names_yes : (a : ℕ) (p : ℕ → Bool) → p a ≡ true → names_of a p ++ (space ∷ decimal a) ≡ names_of (a + 1) p
+pub names_yes : (a : ℕ) (p : ℕ → Bool) → p a ≡ true → names_of a p ++ (codes " " ++ decimal a) ≡ names_of (a + 1) p
 unfolding names_of
-names_yes a p e = sym (gather_yes p (λ a. space ∷ decimal a) a e)
+names_yes a p e = sym (gather_yes p (λ a. codes " " ++ decimal a) a e)
 
 pub names_no : (a : ℕ) (p : ℕ → Bool) → p a ≡ false → names_of a p ≡ names_of (a + 1) p
 unfolding names_of
-names_no a p e = sym (gather_no p (λ a. space ∷ decimal a) a e)
+names_no a p e = sym (gather_no p (λ a. codes " " ++ decimal a) a e)
+
+pub lines_zero : (n : ℕ) (r : Rel) → [] ≡ lines_of n r 0
+unfolding lines_of cat
+lines_zero n r = refl
+
+pub lines_more : (n : ℕ) (r : Rel) (b : ℕ) → lines_of n r b ++ line_of n r b ≡ lines_of n r (b + 1)
+unfolding lines_of
+lines_more n r b = sym (cat_more b (line_of n r))
+
+-- a header and the line of a refused file are short
+pub length_header : (n m k : ℕ) → n < 100000 → m < 100000 → k < 100000 → length (header_of n m k) ≤ 40
+length_header n m k h i j =
+    simp length-append (omega (
+      arith,
+      length-decimal-le 5 n (omega arith) (omega arith) (omega arith),
+      length-decimal-le 5 m (omega arith) (omega arith) (omega arith),
+      length-decimal-le 5 k (omega arith) (omega arith) (omega arith),
+    ))
+
+pub length_refused : (r : Refusal) → place_of r < 100000 → length (refused_line r) ≤ 20
+length_refused r h =
+    simp length-append (omega (
+      arith,
+      length-decimal-le 2 (number_of r) (omega arith) (omega (arith, number_lt r)) (omega (arith, number_lt r)),
+      length-decimal-le 5 (place_of r) (omega arith) (omega arith) (omega arith),
+    ))
 
 -- a class number has at most three digits
 pub length_class : (a : ℕ) → a < 256 → length (decimal a) ≤ 3
-length_class a h = length_decimal 2 5 a (omega arith)
+length_class a h = length-decimal-le 3 a (omega arith) (omega arith) (omega arith)
 
 pub length_names : (k : ℕ) (p : ℕ → Bool) → k ≤ 256 → length (names_of k p) ≤ 4 * k
 length_names zero p h = rw (sym (names_zero p)) (omega arith)
 length_names (suc k) p h = elim (bool_cases (p k)) [
-  | inl e ↦ omega (arith, ap length (names_yes k p e), length-append (names_of k p) (space ∷ decimal k), length_names k p (omega arith), length_class k (omega arith), ap (λ (j : ℕ). length (names_of j p)) (add-one k))
+  | inl e ↦ omega (arith, ap length (names_yes k p e), length-append (names_of k p) (codes " " ++ decimal k), length_names k p (omega arith), length_class k (omega arith), ap (λ (j : ℕ). length (names_of j p)) (add-one k))
   | inr e ↦ omega (arith, ap length (names_no k p e), length_names k p (omega arith), ap (λ (j : ℕ). length (names_of j p)) (add-one k))
 ]
 
@@ -82,9 +89,9 @@ unfolding line_of
 length_line n r b h l =
     omega (
       arith,
-      length-append (decimal b) ((colon ∷ []) ++ (names_of n (r b) ++ (newline ∷ []))),
-      length-append (colon ∷ []) (names_of n (r b) ++ (newline ∷ [])),
-      length-append (names_of n (r b)) (newline ∷ []),
+      length-append (decimal b) (codes ":" ++ (names_of n (r b) ++ codes "\n")),
+      length-append (codes ":") (names_of n (r b) ++ codes "\n"),
+      length-append (names_of n (r b)) (codes "\n"),
       length_names n (r b) h,
       length_class b (omega arith),
     )

@@ -1,56 +1,12 @@
 -- Text as bytes: decimal numbers, and a text written into a buffer.
-use Rattle.std.specs.Prelude.{ℕ, zero, suc, ◌+◌, ◌*◌, ◌/◌, ◌%◌, ◌^◌, ◌≤◌, ◌<◌, ◌≡◌, refl, cond, List, [], ◌∷◌, ◌++◌, length, ltb}
-use Rattle.std.proofs.Common.{sym, ap, ◌∙◌, arith, length-append, pow-suc, le-ltb, lt-ltb}
-use Rattle.std.proofs.Math.Decide.{dec_lt}
-use Rattle.ground.specs.Lists.{over, over_none, over_more}
-
--- the digits of v, which has at most k of them, without leading zeros; the code of 0 is 48
-unfoldable pub decimal_in : ℕ → ℕ → List ℕ
-decimal_in zero v = []
-decimal_in (suc k) v = cond (ltb v 10) ((48 + v) ∷ []) (decimal_in k (v / 10) ++ ((48 + v % 10) ∷ []))
-
--- no number that is printed has more than five
-abbrev pub decimal : ℕ → List ℕ
-decimal v = decimal_in 5 v
-
--- ---- digit by digit, and how many there are
-
-pub decimal_one : (k v : ℕ) → v < 10 → decimal_in (suc k) v ≡ (48 + v) ∷ []
-unfolding decimal_in
-decimal_one k v h = rw (lt-ltb v 10 h)
-
-split : (k v : ℕ) → 10 ≤ v → decimal_in (suc k) v ≡ decimal_in k (v / 10) ++ ((48 + v % 10) ∷ [])
-unfolding decimal_in
-split k v h = rw (le-ltb v 10 h)
-
--- one digit more than v has makes no difference
-more : (k v : ℕ) → v < 10 ^ suc k → decimal_in (suc (suc k)) v ≡ decimal_in (suc k) v
-more zero v h = decimal_one 1 v (omega arith) ∙ sym (decimal_one 0 v (omega arith))
-more (suc k) v h = elim (dec_lt v 10) [
-  | yes l ↦ decimal_one (suc (suc k)) v l ∙ sym (decimal_one (suc k) v l)
-  | no l ↦ split (suc (suc k)) v (omega arith) ∙ ap (λ (xs : List ℕ). xs ++ ((48 + v % 10) ∷ [])) (more k (v / 10) (let e : 10 ^ suc (suc k) ≡ 10 ^ suc k * 10 = pow-suc 10 (suc k) in omega arith))
-      ∙ sym (split (suc k) v (omega arith))
-]
-
-pub decimal_more : (v : ℕ) → 10 ≤ v → v < 100000 → decimal v ≡ decimal (v / 10) ++ ((48 + v % 10) ∷ [])
-decimal_more v h l = split 4 v h ∙ ap (λ (xs : List ℕ). xs ++ ((48 + v % 10) ∷ [])) (sym (more 3 (v / 10) (omega arith)))
-
-pub length_decimal : (k j v : ℕ) → v < 10 ^ suc k → length (decimal_in j v) ≤ suc k
-unfolding decimal_in
-length_decimal k zero v h = omega arith
-length_decimal zero (suc j) v h = rw (lt-ltb v 10 (omega arith)) (omega arith)
-length_decimal (suc k) (suc j) v h = elim (dec_lt v 10) [
-  | yes l ↦ rw (lt-ltb v 10 l) (omega arith)
-  | no l ↦ rw (le-ltb v 10 (omega arith)) (omega (
-    arith,
-    length-append (decimal_in j (v / 10)) ((48 + v % 10) ∷ []),
-    length_decimal k j (v / 10) (let e : 10 ^ suc (suc k) ≡ 10 ^ suc k * 10 = pow-suc 10 (suc k) in omega arith),
-  ))
-]
-
--- a text of at most eight bytes and a number
-pub length_count : (ws : List ℕ) (v : ℕ) → length ws ≤ 8 → v < 100000 → length (ws ++ decimal v) ≤ 13
-length_count ws v h l = omega (arith, length-append ws (decimal v), length_decimal 4 5 v (omega arith))
+use Rattle.std.specs.Prelude.{ℕ, ◌+◌, ◌≤◌, ◌≡◌, refl, List, [], ◌∷◌, ◌++◌, length}
+use Rattle.std.proofs.Common.{subst, ap, ◌∙◌, arith, length-append}
+use Rattle.std.proofs.Math.Seq.{drop-drop}
+use borrow.Rule.Slice.PartMut.{put_mid}
+use Rattle.std.specs.Borrow.{GName}
+use Rattle.std.specs.Fmt.{WritesInCalls}
+use Rattle.std.specs.List.{FoldsTo, concat}
+use Rattle.ground.specs.Lists.{over, over_none, over_more, length_over}
 
 -- ---- the bytes xs were written from byte `at` on, and the next is byte e
 pub record Wrote (at : ℕ) (xs old new : List ℕ) (e : ℕ) : Type 0 where
@@ -71,3 +27,28 @@ wrote_more at e f xs ys old mid new h a b = record {
 -- the same, said of equal lists, as where branches meet
 pub wrote_as : (at e f : ℕ) (xs ys old new cur : List ℕ) → xs ≡ ys → cur ≡ new → f ≡ e → Wrote at xs old new e → Wrote at ys old cur f
 wrote_as at e f xs ys old new cur p q r w = record { next = r ∙ w.next ∙ ap (λ (l : List ℕ). at + length l) p; contents = q ∙ w.contents ∙ ap (λ (l : List ℕ). over at l old) p; long = ap length q ∙ w.long }
+
+-- a part of a buffer in whose place xs came
+pub put_over : (at k : ℕ) (xs old new : List ℕ) → at + length xs ≤ length old → k ≡ length xs → new ≡ xs → Wrote at xs old (put_mid at k old new) (at + length xs)
+unfolding over
+put_over at k xs old new h e q =
+    let same : put_mid at k old new ≡ over at xs old = rw (e, q, drop-drop (length xs) at old) in
+    record { next = refl; contents = same; long = ap length same ∙ length_over at xs old h }
+
+-- Texts written one after another are the whole written at once. W holds a buffer, by a reference with a name, and how far it is filled.
+module _ {W : Type 0} (out : W → List ℕ) (name : W → GName) (at : W → ℕ) (inside : (w : W) → at w ≤ length (out w)) where
+  abbrev pub Writes : W → List ℕ → W → Type 0
+  Writes old xs new = (name new ≡ name old) × Wrote (at old) xs (out old) (out new) (at new)
+
+  pub wrote_parts : (parts : List (List ℕ)) (w v : W) → FoldsTo Writes w parts v → Writes w (concat parts) v
+  wrote_parts [] w v f = subst (λ (u : W). Writes w [] u) f (refl, wrote_none (at w) (out w))
+  wrote_parts (xs ∷ parts) w v f =
+      let i : at f.0 ≤ length (out f.0) = inside f.0 in
+      let first : Writes w xs f.0 = f.1 in
+      let rest = wrote_parts parts f.0 v f.2 in (
+        rest.0 ∙ first.0,
+        wrote_more (at w) (at f.0) (at v) xs (concat parts) (out w) (out f.0) (out v) (omega (arith, first.1.next, first.1.long)) first.1 rest.1,
+      )
+
+  pub wrote_calls : (w : W) (xs : List ℕ) (v : W) → WritesInCalls Writes w xs v → Writes w xs v
+  wrote_calls w xs v c = subst (λ (l : List ℕ). Writes w l v) c.whole (wrote_parts c.parts w v c.calls)

@@ -1,125 +1,157 @@
-// What the programs print, worked out into a lent buffer.
+// What the programs print, as values that are displayed.
 #![tactic(auto)]
 
-ghost use Rattle.std.specs.Prelude.{◌≡◌, [], ◌∷◌, ◌++◌, ℕ, ◌+◌, ◌*◌, ◌≤◌, ◌<◌, length};
-ghost use Rattle.table.specs.Answer.{place_of};
+ghost use Rattle.std.specs.Prelude.{◌≡◌, Some, ℕ, ◌+◌, ◌*◌, ◌≤◌, ◌<◌, ◌++◌, length, IfOk, IfSome, IsOk, OnErr};
+ghost use Rattle.std.specs.Fmt.{DisplaysOnOk};
 ghost use Rattle.relation.specs.Words.{bit_of};
-ghost use Rattle.report.specs.Text.{decimal, Wrote};
-ghost use Rattle.report.specs.Listing.{header_of, names_of, line_of, lines_of, refused_line, space};
+ghost use Rattle.report.specs.Text.{Wrote};
+ghost use Rattle.report.specs.Listing.{header_of, names_of, line_of, lines_of, refused_line};
 
+use std::fmt;
+use std::fmt::Write;
 use table::{Refusal, Table};
 
-// Puts one byte.
-fn put(out: &mut [u8], at: usize, byte: u8) -> usize
-    requires { at < length out.old }
-    ensures { Wrote at (byte ∷ []) out.old out.new result }
-{
-    out[at] = byte;
-    at + 1
+// A listing's first line: the counts of classes and edges, and the rounds.
+#[derive(Clone, Copy, Debug, PartialEq, Eq)]
+pub struct Header {
+    pub table: Table,
+    pub rounds: usize,
 }
 
-// Puts a text.
+impl fmt::Display for Header {
+    ghost output = { λ h. Some (header_of h.table.n h.table.m h.rounds) };
+
+    fn fmt<W: fmt::Write>(&self, f: &mut fmt::Formatter<W>) -> fmt::Result {
+        let Table { n, m, .. } = self.table;
+        writeln!(f, "classes {n} edges {m} rounds {}", self.rounds)
+    }
+}
+
+// The lines of a listing: for each class the classes under it, ascending.
+#[derive(Clone, Copy, Debug)]
+pub struct Lines<'a> {
+    n: usize,
+    relation: &'a [u64],
+    ghost few: { n ≤ 256 },
+    ghost long: { 1024 ≤ length relation.now },
+}
+
+impl Lines<'_> {
+    ghost use Rattle.report.specs.Given.{shown, lines_given};
+
+    // The lines of a table's classes; 9 where the relation is short, 4 where there are too many classes.
+    pub fn new(t: Table, relation: &[u64]) -> Result<Lines<'_>, Refusal>
+        ensures { shown result ≡ lines_given t.n relation.now }
+    {
+        if relation.len() < Table::WORDS {
+            return Err(Refusal::ShortBuffer);
+        }
+        if Table::CLASSES < t.n {
+            return Err(Refusal::OverLimit);
+        }
+        Ok(Lines { n: t.n, relation })
+    }
+
+    // A space and the number of each class under class b.
+    #[tactic(auto, using(crate::specs::Listing::names_zero, crate::specs::Listing::names_yes, crate::specs::Listing::names_no))]
+    fn write_names<W: fmt::Write>(&self, f: &mut fmt::Formatter<W>, b: u8) -> fmt::Result
+        ensures { DisplaysOnOk W.write_str_gives f.old result (Some (names_of self.now.n (bit_of self.now.relation.now b))) f.new }
+    {
+        for a in 0..self.n {
+            if relation::holds(self.relation, b as usize, a) {
+                write!(f, " {a}")?;
+            }
+        }
+        Ok(())
+    }
+
+    // The line of class b.
+    #[tactic(auto, unfolding(crate::specs::Listing::line_of))]
+    fn write_line<W: fmt::Write>(&self, f: &mut fmt::Formatter<W>, b: u8) -> fmt::Result
+        ensures { DisplaysOnOk W.write_str_gives f.old result (Some (line_of self.now.n (bit_of self.now.relation.now) b)) f.new }
+    {
+        write!(f, "{b}:")?;
+        self.write_names(f, b)?;
+        f.write_str("\n")
+    }
+}
+
+impl fmt::Display for Lines<'_> {
+    ghost output = { λ l. Some (lines_of l.n (bit_of l.relation.now) l.n) };
+
+    #[tactic(auto, using(crate::specs::Listing::lines_zero, crate::specs::Listing::lines_more))]
+    fn fmt<W: fmt::Write>(&self, f: &mut fmt::Formatter<W>) -> fmt::Result {
+        for b in 0..self.n {
+            self.write_line(f, b as u8)?;
+        }
+        Ok(())
+    }
+}
+
+// The line of a refused file.
+#[derive(Clone, Copy, Debug, PartialEq, Eq)]
+pub struct Refused(pub Refusal);
+
+impl fmt::Display for Refused {
+    ghost output = { λ r. Some (refused_line r.0) };
+
+    fn fmt<W: fmt::Write>(&self, f: &mut fmt::Formatter<W>) -> fmt::Result {
+        writeln!(f, "{}", self.0)
+    }
+}
+
+// Puts a text into a buffer, from `at` on; answers where the next byte goes.
 fn put_text(out: &mut [u8], at: usize, text: &[u8]) -> usize
     requires { at + length text.now ≤ length out.old }
     ensures { Wrote at text.now out.old out.new result }
 {
-    let mut e = at;
-    let mut i = 0;
-    while i < text.len() {
-        e = put(out, e, text[i]);
-        i += 1;
-    }
-    e
+    let end = at + text.len();
+    out[at..end].copy_from_slice(text);
+    end
 }
 
-// Puts a number below 100,000.
-fn put_number(out: &mut [u8], at: usize, v: usize) -> usize
-    requires { (v < 100000) × (at + 5 ≤ length out.old) }
-    ensures { Wrote at (decimal v) out.old out.new result }
-{
-    if v < 10 {
-        return put(out, at, (48 + v) as u8);
-    }
-    let e = put_number(out, at, v / 10);
-    put(out, e, (48 + v % 10) as u8)
+// A lent buffer that is written into, one text after another.
+#[derive(Drop)]
+struct Page<'a> {
+    out: &'a mut [u8],
+    at: usize,
+    ghost inside: { at ≤ length out.now },
 }
 
-// Puts a text of at most eight bytes and a number.
-fn put_count(out: &mut [u8], at: usize, text: &[u8], v: usize) -> usize
-    requires { (length text.now ≤ 8) × (v < 100000) × (at + 13 ≤ length out.old) }
-    ensures { Wrote at (text.now ++ decimal v) out.old out.new result }
-{
-    let e = put_text(out, at, text);
-    put_number(out, e, v)
-}
+impl fmt::Write for Page<'_> {
+    ghost write_str_gives = { λ old s new. (new.out.ghost_name ≡ old.out.ghost_name) × Wrote old.at s old.out.now new.out.now new.at };
 
-// Puts a space and a class's number.
-fn put_name(out: &mut [u8], at: usize, a: usize) -> usize
-    requires { (a < 256) × (at + 6 ≤ length out.old) }
-    ensures { Wrote at (space ∷ decimal a) out.old out.new result }
-{
-    let e = put(out, at, b' ');
-    put_number(out, e, a)
-}
-
-// Puts a space and the number of each class below n in row b of a relation.
-fn put_names(out: &mut [u8], at: usize, rel: &[u64], n: usize, b: usize) -> usize
-    requires { (1024 ≤ length rel.now) × (n ≤ 256) × (b < 256) × (at + 4 * n + 2 ≤ length out.old) }
-    ensures { Wrote at (names_of n (bit_of rel.now b)) out.old out.new result }
-{
-    let mut e = at;
-    let mut a = 0;
-    while a < n {
-        if relation::holds(rel, b, a) {
-            e = put_name(out, e, a);
+    // A text that has no room is an error, and leaves the buffer as it was.
+    fn write_str(&mut self, s: &str) -> fmt::Result
+        ensures ok { IsOk result → (self.new.out.ghost_name ≡ self.old.out.ghost_name) × Wrote self.old.at s.now self.old.out.now self.new.out.now self.new.at }
+        ensures fits { self.old.at + length s.now ≤ length self.old.out.now → IsOk result }
+        ensures err { OnErr result ((self.new.at ≡ self.old.at) × (self.new.out.now ≡ self.old.out.now)) }
+    {
+        if self.out.len() - self.at < s.len() {
+            return Err(fmt::Error);
         }
-        a += 1;
+        self.at = put_text(self.out, self.at, s.as_bytes());
+        Ok(())
     }
-    e
 }
 
-// Puts the line of class b.
-fn put_line(out: &mut [u8], at: usize, rel: &[u64], n: usize, b: usize) -> usize
-    requires { (1024 ≤ length rel.now) × (n ≤ 256) × (b < n) × (at + 4 * n + 16 ≤ length out.old) }
-    ensures { Wrote at (line_of n (bit_of rel.now) b) out.old out.new result }
+// Writes a value's text into a lent buffer, from `at` on; answers where the next byte goes. Where there is no room it is an error, and what was
+// written before stays.
+pub fn write_into<D: fmt::Display + Drop>(
+    out: &mut [u8],
+    at: usize,
+    value: D,
+) -> Result<usize, fmt::Error>
+    ensures ok { IfOk result (λ next. IfSome (D.output value) (λ text. Wrote at text out.old out.new next × (next ≤ length out.old))) }
+    ensures len { length out.new ≡ length out.old }
 {
-    let e = put_number(out, at, b);
-    let f = put(out, e, b':');
-    let g = put_names(out, f, rel, n, b);
-    put(out, g, b'\n')
-}
-
-// Puts the lines of the classes below n.
-fn put_lines(out: &mut [u8], at: usize, rel: &[u64], n: usize) -> usize
-    requires { (1024 ≤ length rel.now) × (n ≤ 256) × (at + n * 1040 ≤ length out.old) }
-    ensures { Wrote at (lines_of n (bit_of rel.now) n) out.old out.new result }
-{
-    let mut e = at;
-    let mut b = 0;
-    while b < n {
-        e = put_line(out, e, rel, n, b);
-        b += 1;
+    if out.len() < at {
+        return Err(fmt::Error);
     }
-    e
+    let mut page = Page { out, at };
+    page.write(value)?;
+    Ok(page.at)
 }
 
-// Puts the header.
-fn put_header(out: &mut [u8], t: Table, rounds: usize) -> usize
-    requires { (t.n < 100000) × (t.m < 100000) × (rounds < 100000) × (64 ≤ length out.old) }
-    ensures { Wrote 0 (header_of t.n t.m rounds) out.old out.new result }
-{
-    let e = put_count(out, 0, b"classes ", t.n);
-    let f = put_count(out, e, b" edges ", t.m);
-    let g = put_count(out, f, b" rounds ", rounds);
-    put(out, g, b'\n')
-}
-
-// Puts the line of a refused file.
-fn put_refused(out: &mut [u8], r: Refusal) -> usize
-    requires { (place_of r < 100000) × (64 ≤ length out.old) }
-    ensures { Wrote 0 (refused_line r) out.old out.new result }
-{
-    let e = put_count(out, 0, b"refused ", r.number());
-    let f = put_count(out, e, b" at ", r.place());
-    put(out, f, b'\n')
-}
+#[cfg(test)]
+mod tests;

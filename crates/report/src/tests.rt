@@ -1,0 +1,76 @@
+// A listing and a refusal as they are to be printed, in buffers with room and with one byte too few.
+use super::*;
+use table::Refusal;
+
+const CHAIN: Table = Table {
+    n: 6,
+    m: 4,
+    p: 1,
+    q: 1,
+};
+
+// Each class of the chain and each class under it.
+const PAIRS: [(usize, usize); 15] = [
+    (0, 0),
+    (1, 1),
+    (2, 2),
+    (3, 0),
+    (3, 3),
+    (4, 0),
+    (4, 1),
+    (4, 3),
+    (4, 4),
+    (5, 0),
+    (5, 1),
+    (5, 2),
+    (5, 3),
+    (5, 4),
+    (5, 5),
+];
+
+#[test]
+fn a_chain(rt: HostRuntime) {
+    let mut relation = [0; Table::WORDS];
+    for (b, a) in PAIRS {
+        if b < Table::CLASSES && a < Table::CLASSES {
+            relation::put(&mut relation, b, a);
+        }
+    }
+    let header = Header {
+        table: CHAIN,
+        rounds: 2,
+    };
+    let lines = Lines::new(CHAIN, &relation).expect(&rt, "a relation of six classes");
+    let mut out = [b'#'; 100];
+    let next = write_into(&mut out, 0, header).expect(&rt, "room for a header");
+    let end = write_into(&mut out, next, lines).expect(&rt, "room for six lines");
+    let want = "classes 6 edges 4 rounds 2\n0: 0\n1: 1\n2: 2\n3: 0 3\n4: 0 1 3 4\n5: 0 1 2 3 4 5\n";
+    assert_eq!(rt; &out[..end], want.as_bytes());
+    assert!(rt; out[end..].iter().all(|byte| *byte == b'#'));
+}
+
+#[test]
+fn a_refusal(rt: HostRuntime) {
+    let mut out = [b'#'; 16];
+    let end = write_into(&mut out, 1, Refused(Refusal::BadBlock(1))).expect(&rt, "just room");
+    assert_eq!(rt; end, 16);
+    assert_eq!(rt; &out[..], "#refused 3 at 1\n".as_bytes());
+    let mut short = [b'#'; 15];
+    assert!(rt; write_into(&mut short, 1, Refused(Refusal::BadBlock(1))).is_err());
+    assert!(rt; write_into(&mut short, 16, Refused(Refusal::BadBlock(1))).is_err());
+}
+
+#[test]
+fn what_has_no_lines(rt: HostRuntime) {
+    let words = [0; Table::WORDS];
+    let large = Table { n: 257, ..CHAIN };
+    assert_eq!(rt; Lines::new(large, &words).err(), Some(Refusal::OverLimit));
+    assert_eq!(rt;
+        Lines::new(large, &words[1..]).err(),
+        Some(Refusal::ShortBuffer)
+    );
+    assert_eq!(rt;
+        Lines::new(CHAIN, &words[1..]).err(),
+        Some(Refusal::ShortBuffer)
+    );
+}
