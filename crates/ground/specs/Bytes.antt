@@ -1,8 +1,7 @@
 -- Numbers as bytes, the lowest first: the bytes of a number (`le`), the number that bytes spell (`num`), zeros, and the 16-bit number at a byte (`word`).
 use Rattle.std.specs.Prelude.{◌≡◌, refl, Bool, true, false, ◌&&◌, ℕ, zero, suc, ◌+◌, ◌*◌, ◌-◌, ◌/◌, ◌%◌, ◌^◌, ◌≤◌, ◌<◌, List, [], ◌∷◌, ◌++◌, eqb, length, take, drop, get_or, set, replicate}
-use Rattle.std.proofs.Common.{sym, ap, ◌∙◌, arith, pow-suc, add-one, append_assoc, append-nil, length-take, length-drop, drop_of_length-le, take_all, drop-cons, take-suc-set, get_or-drop, get_or-take, ne_eqb}
-use Rattle.std.proofs.Math.Nat.{sub-zero, zero-sub, suc-sub-suc}
-use Rattle.std.proofs.lemmas.List.{length-replicate, replicate-append-replicate}
+use Rattle.std.proofs.Common.{ap, ◌∙◌, arith, pow-suc, add-one, append_assoc, append-nil, length-take, length-drop, drop_of_length-le, take_all, drop-cons, take-suc-set, get_or-drop, get_or-take, ne_eqb}
+use Rattle.std.proofs.lemmas.List.{length-replicate, replicate-append-replicate, take-replicate, drop-replicate}
 use Rattle.std.proofs.Math.Seq.{drop-length}
 use Rattle.std.proofs.lemmas.List.Edits.{fill_more}
 use Rattle.ground.specs.Lists.{part}
@@ -58,7 +57,7 @@ le_num (x ∷ l) b =
     rw (m, d) (ap (λ (r : List ℕ). x ∷ r) (le_num l (λ j. b (suc j))))
 
 pub le_num_of : (k : ℕ) (l : List ℕ) → length l ≡ k → Bytes l → le k (num l) ≡ l
-le_num_of k l e b = ap (λ (n : ℕ). le n (num l)) (sym e) ∙ le_num l b
+le_num_of k l e b = rw (← e) (le_num l b)
 
 pub num_lt : (k : ℕ) (l : List ℕ) → ((j : ℕ) → get_or l j 0 < 256) → length l ≤ k → num l < 256 ^ k
 unfolding num
@@ -99,13 +98,13 @@ set_two (x ∷ y ∷ z ∷ l) a b h = absurd (omega arith)
 pub le_turn : (w : ℕ) (l g : List ℕ) (i v : ℕ) → i < w → length l ≡ w → take i l ++ le (w - i) v ≡ g → take (i + 1) (set l i (v % 256)) ++ le (w - (i + 1)) (v / 256) ≡ g
 le_turn w l g i v h n e =
     let k : suc (w - (i + 1)) ≡ w - i = omega arith in
-    le_step l i (w - (i + 1)) v (omega arith) ∙ ap (λ (m : ℕ). take i l ++ le m v) k ∙ e
+    le_step l i (w - (i + 1)) v (omega arith) ∙ rw k e
 
 pub le_done : (w : ℕ) (l g : List ℕ) (i v : ℕ) → w ≤ i → i ≤ w → length l ≡ w → take i l ++ le (w - i) v ≡ g → l ≡ g
 unfolding le
 le_done w l g i v h h' n e =
     let k : w - i ≡ 0 = omega arith in
-    sym (take_all i l (omega arith)) ∙ sym (append-nil (take i l)) ∙ ap (λ (m : ℕ). take i l ++ le m v) (sym k) ∙ e
+    rw (k, append-nil, take_all i l (omega arith)) at e
 
 -- ---- a number read byte by byte, the highest first
 
@@ -147,7 +146,7 @@ num_turn s at i v x h h' k e y =
     omega arith
 
 pub num_done : (s : List ℕ) (at i v : ℕ) → i ≤ 0 → v ≡ num (drop i (part s at 8)) → v ≡ num (part s at 8)
-num_done s at i v h e = let q : i ≡ 0 = omega arith in e ∙ ap (λ (z : ℕ). num (drop z (part s at 8))) q
+num_done s at i v h e = let q : i ≡ 0 = omega arith in rw q at e
 
 -- the check of block b, as a part of the file
 
@@ -159,15 +158,11 @@ length_zeros n = length-replicate n 0
 
 pub drop_zeros : (k n : ℕ) → drop k (zeros n) ≡ zeros (n - k)
 unfolding zeros
-drop_zeros zero n = rw sub-zero
-drop_zeros (suc k) zero = rw zero-sub
-drop_zeros (suc k) (suc n) = rw suc-sub-suc (drop_zeros k n)
+drop_zeros k n = drop-replicate k n 0
 
 pub take_zeros : (k n : ℕ) → k ≤ n → take k (zeros n) ≡ zeros k
 unfolding zeros
-take_zeros zero n h = refl
-take_zeros (suc k) zero h = absurd (omega arith)
-take_zeros (suc k) (suc n) h = ap (λ (l : List ℕ). 0 ∷ l) (take_zeros k n (omega arith))
+take_zeros k n h = take-replicate k n 0 h
 
 pub zeros_add : (n m : ℕ) → zeros n ++ zeros m ≡ zeros (n + m)
 unfolding zeros
@@ -177,12 +172,10 @@ zeros_add n m = replicate-append-replicate n m 0
 
 pub zeros_turn : (d l : List ℕ) (i : ℕ) → i < length d → l ≡ zeros i ++ drop i d → set l i 0 ≡ zeros (i + 1) ++ drop (i + 1) d
 unfolding zeros
-zeros_turn d l i h e = ap (λ (x : List ℕ). set x i 0) e ∙ fill_more i 0 d h
+zeros_turn d l i h e = rw e (fill_more i 0 d h)
 
 pub zeros_done : (d l : List ℕ) (i : ℕ) → length d ≤ i → i ≤ length d → l ≡ zeros i ++ drop i d → l ≡ zeros (length d)
-zeros_done d l i h h' e =
-    let k : i ≡ length d = omega arith in
-    e ∙ ap (λ (x : ℕ). zeros x ++ drop x d) k ∙ ap (λ (x : List ℕ). zeros (length d) ++ x) (drop-length d) ∙ append-nil (zeros (length d))
+zeros_done d l i h h' e = let k : i ≡ length d = omega arith in e ∙ rw (k, drop-length d) (append-nil (zeros (length d)))
 
 -- ---- parts and runs
 

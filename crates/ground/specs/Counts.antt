@@ -68,26 +68,18 @@ unfolding sum
 sum_ge zero c f h = omega arith
 sum_ge (suc n) c f h = omega (arith, sum_ge n c f (λ i l. h i (omega arith)), h n (omega arith))
 
-pub count_ge : (n : ℕ) (p : ℕ → Bool) (i : ℕ) → i < n → p i ≡ true → 1 ≤ count n p
-unfolding count
-count_ge zero p i l e = absurd (not-suc-le-zero l)
-count_ge (suc n) p i l e = elim (lt_cases l) [
-  | inl k ↦ rw (sym (ap p k) ∙ e) (omega arith)
-  | inr k ↦ omega (arith, count_ge n p i k e)
-]
-
 -- ---- a longer range
 
 pub count_more : (p : ℕ → Bool) (i n : ℕ) → i ≤ n → count i p ≤ count n p
 unfolding count
 count_more p i n h = le_ind (λ (k : ℕ). count i p ≤ count k p) (le_refl (count i p)) (λ k l ih. omega arith) n h
 
-count_hit : (p : ℕ → Bool) (i : ℕ) → p i ≡ true → count (suc i) p ≡ count i p + 1
-unfolding count
-count_hit p i e = rw e
-
 pub count_past : (p : ℕ → Bool) (i n : ℕ) → i < n → p i ≡ true → count i p < count n p
-count_past p i n h e = omega (arith, count_hit p i e, count_more p (suc i) n h)
+unfolding count
+count_past p i n h e = let m = rw e at (count_more p (suc i) n h) in omega arith
+
+pub count_ge : (n : ℕ) (p : ℕ → Bool) (i : ℕ) → i < n → p i ≡ true → 1 ≤ count n p
+count_ge n p i l e = omega (arith, count_past p i n l e)
 
 pub sum_more : (f : ℕ → ℕ) (i n : ℕ) → i ≤ n → sum i f ≤ sum n f
 unfolding sum

@@ -2,11 +2,11 @@
 -- What a loop that fills or copies a buffer has done so far is said with these. Runs of lists one after the other are in Runs.antt.
 use Rattle.std.specs.Prelude.{◌≡◌, refl, get_or, set}
 use Rattle.std.proofs.Math.Path.{sym, ap, ap₂}
-use Rattle.std.proofs.Common.{◌∙◌, inl, inr, arith, not-suc-le-zero, mul-zero, mul-suc, zero-add, suc-add, add-one, length-take, length-drop, take-append-drop, drop-cons, length-take-le, take-take, take-add, take_all, get_or-append-add, get_or-take, List, [], ◌∷◌, ◌++◌, append_assoc, ℕ, zero, suc, ◌+◌, ◌*◌, ◌-◌, ◌≤◌, ◌<◌}
+use Rattle.std.proofs.Common.{◌∙◌, inl, inr, arith, not-suc-le-zero, mul-zero, mul-suc, add-one, length-take, length-drop, take-append-drop, drop-cons, length-take-le, take-take, take-add, take_all, get_or-append-add, get_or-take, List, [], ◌∷◌, ◌++◌, append_assoc, ℕ, zero, suc, ◌+◌, ◌*◌, ◌-◌, ◌≤◌, ◌<◌}
 use Rattle.std.proofs.Math.ListN.{length, take, drop, length-append, get_or-append}
-use Rattle.std.proofs.Math.Seq.{take_at, drop_at, drop-drop, append_snoc, take-nil, drop-append-add}
-use Rattle.std.proofs.lemmas.List.Edits.{sets, sets-eq}
-use Rattle.std.proofs.lemmas.List.{set_at, get_or_at, take-append-le, drop-append-le}
+use Rattle.std.proofs.Math.Seq.{paste, take_at, drop-drop, append_snoc, drop-append-add}
+use Rattle.std.proofs.lemmas.List.Edits.{sets, sets-eq, paste_all, paste-paste}
+use Rattle.std.proofs.lemmas.List.{set_at, get_or_at, take-append-le, drop-append-le, drop-take}
 use Rattle.std.specs.List.{concat}
 use Rattle.std.specs.Simd.{first_chunks}
 use Rattle.ground.specs.Tests.{lt_cases}
@@ -43,11 +43,8 @@ tabulate_start d f = refl
 pub tabulate_more : (d l : List ℕ) (i v : ℕ) (f : ℕ → ℕ) → i < length d → l ≡ tabulate i f ++ drop i d → v ≡ f i → set l i v ≡ tabulate (i + 1) f ++ drop (i + 1) d
 unfolding tabulate
 tabulate_more d l i v f h e q =
-    ap₂ (λ (x : List ℕ) (y : ℕ). set x i y) e q
-    ∙ ap (λ (t : List ℕ). set (tabulate i f ++ t) i (f i)) (drop-cons d i 0 h)
-    ∙ set_at (tabulate i f) (get_or d i 0) (drop (suc i) d) (f i) i (length_tabulate i f)
-    ∙ sym (append_snoc (tabulate i f) (f i) (drop (suc i) d))
-    ∙ ap (λ (x : ℕ). tabulate x f ++ drop x d) (sym (add-one i))
+    rw (e, q, drop-cons d i 0 h, set_at (tabulate i f) (get_or d i 0) (drop (suc i) d) (f i) i (length_tabulate i f), add-one i)
+    (sym (append_snoc (tabulate i f) (f i) (drop (suc i) d)))
 
 -- ---- the w entries from entry i on
 
@@ -58,18 +55,13 @@ pub length_part : (l : List ℕ) (i w : ℕ) → i + w ≤ length l → length (
 unfolding part
 length_part l i w h = simp (length-take, length-drop) (omega arith)
 
-drop_take : (i w : ℕ) (l : List ℕ) → drop i (take (i + w) l) ≡ take w (drop i l)
-drop_take zero w l = rw (zero-add w)
-drop_take (suc i) w [] = rw (suc-add i w) (sym (take-nil w))
-drop_take (suc i) w (x ∷ l) = rw (suc-add i w) (drop_take i w l)
-
 -- a part of a part
 pub part_part : (l : List ℕ) (a w i v : ℕ) → i + v ≤ w → part (part l a w) i v ≡ part l (a + i) v
 unfolding part
 part_part l a w i v h =
     let e : i + (w - i) ≡ w = omega arith in
     let k : v ≤ w - i = omega arith in
-    ap (λ (z : ℕ). take v (drop i (take z (drop a l)))) (sym e) ∙ rw (drop_take i (w - i) (drop a l), drop-drop i a l, take-take v (w - i) (drop (a + i) l) k)
+    rw (← e, drop-take i (w - i) (drop a l), drop-drop i a l, take-take v (w - i) (drop (a + i) l) k)
 
 pub part_split : (l : List ℕ) (i u v : ℕ) → part l i (u + v) ≡ part l i u ++ part l (i + u) v
 unfolding part
@@ -88,7 +80,7 @@ part_front l r i w h =
 
 pub part_back : (p q : List ℕ) (a i w : ℕ) → length p ≡ a → part (p ++ q) (a + i) w ≡ part q i w
 unfolding part
-part_back p q a i w e = ap (λ (n : ℕ). take w (drop (n + i) (p ++ q))) (sym e) ∙ ap (take w) (drop-append-add p q i)
+part_back p q a i w e = rw (← e, drop-append-add p q i)
 
 pub part_first : (p q : List ℕ) (a : ℕ) → length p ≡ a → part (p ++ q) 0 a ≡ p
 unfolding part
@@ -104,26 +96,19 @@ unfolding over
 over_none at old = let e : at + 0 ≡ at = omega arith in rw e (sym (take-append-drop at old))
 
 module _ (at : ℕ) (xs ys old : List ℕ) (fits : at + length xs ≤ length old) where
-  head_length : length (take at old ++ xs) ≡ at + length xs
-  head_length = let h : at ≤ length old = omega arith in length-append (take at old) xs ∙ rw (length-take-le at old h)
-
   pub over_more : (at' : ℕ) → at' ≡ at + length xs → over at' ys (over at xs old) ≡ over at (xs ++ ys) old
   unfolding over
-  over_more at' e =
-      let d : List ℕ = drop (at + length xs) old in
-      let l : take at old ++ (xs ++ d) ≡ (take at old ++ xs) ++ d = sym (append_assoc (take at old) xs d) in
-      let t : take at' ((take at old ++ xs) ++ d) ≡ take at old ++ xs = take_at (take at old ++ xs) d at' (head_length ∙ sym e) in
-      let w : drop at' ((take at old ++ xs) ++ d) ≡ d = drop_at (take at old ++ xs) d at' (head_length ∙ sym e) in
-      let u : drop (at' + length ys) ((take at old ++ xs) ++ d) ≡ drop (at + length xs + length ys) old = sym (drop-drop (length ys) at' ((take at old ++ xs) ++ d)) ∙ ap (drop (length ys)) w ∙ drop-drop (length ys) (at + length xs) old in
-      let s : at + length xs + length ys ≡ at + length (xs ++ ys) = omega (arith, length-append xs ys) in
-      ap (λ (b : List ℕ). take at' b ++ (ys ++ drop (at' + length ys) b)) l
-      ∙ ap₂ (λ (a b : List ℕ). a ++ (ys ++ b)) t (u ∙ ap (λ (k : ℕ). drop k old) s)
-      ∙ append_assoc (take at old) xs (ys ++ drop (at + length (xs ++ ys)) old)
-      ∙ ap (λ (b : List ℕ). take at old ++ b) (sym (append_assoc xs ys (drop (at + length (xs ++ ys)) old)))
+  over_more at' e = rw (
+    e,
+    ← paste_all old at xs (length xs) refl,
+    ← paste_all (paste old at xs (length xs)) (at + length xs) ys (length ys) refl,
+    paste-paste old at xs ys (length xs) (length ys) refl refl (omega arith),
+    ← length-append xs ys,
+  ) (paste_all old at (xs ++ ys) (length (xs ++ ys)) refl)
 
 pub length_over : (at : ℕ) (xs old : List ℕ) → at + length xs ≤ length old → length (over at xs old) ≡ length old
 unfolding over
-length_over at xs old h = length-append (take at old) (xs ++ drop (at + length xs) old) ∙ omega (arith, length-append xs (drop (at + length xs) old), length-drop (at + length xs) old, length-take-le at old (omega arith))
+length_over at xs old h = simp (length-append, length-drop, length-take) (omega arith)
 
 pub over_sets : (at : ℕ) (xs old : List ℕ) → at + length xs ≤ length old → sets old at xs ≡ over at xs old
 unfolding over
@@ -140,7 +125,7 @@ pub over_at : (at i : ℕ) (xs old : List ℕ) → at ≤ length old → i < len
 unfolding over
 over_at at i xs old h l =
     let q : at + i ≡ length (take at old) + i = omega (arith, length-take-le at old h) in
-    ap (λ (z : ℕ). get_or (take at old ++ (xs ++ drop (at + length xs) old)) z 0) q ∙ get_or-append-add (take at old) (xs ++ drop (at + length xs) old) i 0 ∙ get_or-append xs _ 0 i l
+    rw (q, get_or-append-add (take at old) (xs ++ drop (at + length xs) old) i 0) (get_or-append xs _ 0 i l)
 
 -- ---- a list cut into pieces of n entries, and pieces one after another
 

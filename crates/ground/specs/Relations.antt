@@ -1,8 +1,8 @@
 -- Relations as tests of two numbers, row first: their pairs within n by m, how many there are, which of two relations has more, and the pairs' numbers in ascending order.
-use Rattle.std.specs.Prelude.{◌≡◌, refl, Bool, true, false, not, ◌&&◌, ℕ, zero, suc, ◌+◌, ◌*◌, ◌-◌, ◌≤◌, ◌<◌}
-use Rattle.std.proofs.Common.{sym, ap, subst, ◌∙◌, arith, add-one}
-use Rattle.std.proofs.lemmas.Bool.{not-true}
-use Rattle.ground.specs.Tests.{ff, and_l, and_r, any, any_out, none_out}
+use Rattle.std.specs.Prelude.{◌≡◌, refl, Bool, true, false, not, ◌&&◌, ℕ, ◌+◌, ◌*◌, ◌-◌, ◌≤◌, ◌<◌}
+use Rattle.std.proofs.Common.{arith, add-one}
+use Rattle.std.proofs.lemmas.Bool.{not-true, not-false, and_parts}
+use Rattle.ground.specs.Tests.{any, any_out, none_out}
 use Rattle.ground.specs.Counts.{count, sum, count_le, count_mono, count_strict, count_ge, count_ext, count_past, count_find, sum_mono, sum_strict, sum_le, sum_ge, sum_ext, sum_past, sum_find}
 
 -- the pair (b, a) is in r where r b a is true
@@ -37,16 +37,6 @@ pub pairs_mono : (n m : ℕ) (r s : Rel) → ((y x : ℕ) → y < n → x < m �
 unfolding pairs
 pairs_mono n m r s h = sum_mono n _ _ (λ y l. count_mono m (r y) (s y) (λ x k. h y x l k))
 
-count_none : (k : ℕ) → count k (λ x. false) ≡ 0
-unfolding count
-count_none zero = refl
-count_none (suc k) = omega (arith, count_none k)
-
-pairs_none : (n m : ℕ) → pairs n m (λ y x. false) ≡ 0
-unfolding pairs sum
-pairs_none zero m = refl
-pairs_none (suc n) m = omega (arith, pairs_none n m, count_none m)
-
 pub pairs_le : (n m : ℕ) (r : Rel) → pairs n m r ≤ n * m
 unfolding pairs
 pairs_le n m r = sum_le n m _ (λ b _. count_le m (r b))
@@ -63,11 +53,7 @@ falls n m r s = any n (λ b. any m (λ a. r b a && not (s b a)))
 
 pub falls_none : (n m : ℕ) (r s : Rel) → falls n m r s ≡ false → (b a : ℕ) → b < n → a < m → r b a ≡ true → s b a ≡ true
 unfolding falls
-falls_none n m r s e b a h l x = go (s b a) (none_out _ _ (none_out _ _ e b h) a l)
-  where
-    go : (t : Bool) → (r b a && not t) ≡ false → t ≡ true
-    go true _ = refl
-    go false q = ff (sym q ∙ rw x refl)
+falls_none n m r s e b a h l x = not-false (s b a) (rw x at (none_out _ _ (none_out _ _ e b h) a l))
 
 pub record Fallen (n m : ℕ) (r s : Rel) : Type 0 where
   pub row : ℕ
@@ -82,9 +68,8 @@ unfolding falls
 falls_some n m r s e =
     let x = any_out n (λ b. any m (λ a. r b a && not (s b a))) e in
     let y = any_out m (λ a. r x.at a && not (s x.at a)) x.passes in
-    let u : Bool = r x.at y.at in
-    let v : Bool = s x.at y.at in
-    record { row = x.at; col = y.at; row_lt = x.below; col_lt = y.below; before = and_l u (not v) y.passes; after = not-true v (and_r u (not v) y.passes) }
+    let w = and_parts _ _ y.passes in
+    record { row = x.at; col = y.at; row_lt = x.below; col_lt = y.below; before = w.0; after = not-true _ w.1 }
 
 pub pairs_strict : (n m : ℕ) (r s : Rel) → ((b a : ℕ) → Holds s b a → Holds r b a) → Fallen n m r s → pairs n m s < pairs n m r
 unfolding pairs
@@ -113,14 +98,9 @@ module _ (n m : ℕ) (r : Rel) where
   -- and two pairs have two numbers
   pub rank_inj : (u v u' v' : ℕ) → v < m → v' < m → r u v ≡ true → r u' v' ≡ true → rank m r u v ≡ rank m r u' v' → (u ≡ u') × (v ≡ v')
   rank_inj u v u' v' vl vl' e e' q =
-      let p : ¬ (u < u') = λ h. (let x = rank_row u v u' v' vl e h in omega arith) in
-      let p' : ¬ (u' < u) = λ h. (let x = rank_row u' v' u v vl' e' h in omega arith) in
-      let same : u ≡ u' = omega arith in
-      let e'' : r u v' ≡ true = subst (λ (x : ℕ). r x v' ≡ true) (sym same) e' in
-      let q' : rank m r u v ≡ rank m r u v' = q ∙ ap (λ (x : ℕ). rank m r x v') (sym same) in
-      let s : ¬ (v < v') = λ h. (let x = rank_col u v v' e h in omega arith) in
-      let s' : ¬ (v' < v) = λ h. (let x = rank_col u v' v e'' h in omega arith) in
-      (same, omega arith)
+      let same : u ≡ u' = grind (arith, rank_row u v u' v' vl e, rank_row u' v' u v vl' e') in
+      let q' = rw (← same) at q in
+      (same, grind (arith, rank_col u v v' e, rank_col u v' v (rw (← same) at e')))
 
 -- every number below the count is some pair's
 pub record Ranked (n m : ℕ) (r : Rel) (c : ℕ) : Type 0 where

@@ -1,10 +1,11 @@
 -- Runs of lists: one after the other (`cat`), only those whose number passes a test (`gather`), what stands in such a run (`At`), and lists in ascending order.
 use Rattle.std.specs.Prelude.{◌≡◌, Bool, true, false, ◌⊎◌, List, [], ◌∷◌, ◌++◌, ℕ, zero, suc, ◌+◌, ◌*◌, ◌-◌, ◌≤◌, ◌<◌, take, get_or}
 use Rattle.std.proofs.Math.Path.{refl}
-use Rattle.std.proofs.Common.{sym, ap, ap₂, subst, ◌∙◌, inl, inr, append-nil, arith, not-suc-le-zero, le_refl, zero-lt-suc, eq-or-lt_of_le, le_of_suc-le-suc, mul-zero, mul-suc, mul-le-mul_left, add-zero, add-one, get_or-append-add, take-add, take_all}
+use Rattle.std.proofs.Common.{sym, ap, ap₂, subst, ◌∙◌, inl, inr, append-nil, arith, not-suc-le-zero, le_refl, zero-lt-suc, le_of_suc-le-suc, mul-zero, mul-suc, mul-le-mul_left, add-zero, add-one, get_or-append-add, take-add, take_all}
 use Rattle.std.proofs.Math.Decide.{dec_lt, le_ind}
 use Rattle.std.proofs.Math.ListN.{length, length-append, get_or-append}
-use Rattle.ground.specs.Tests.{ff, lt_cases}
+use Rattle.std.proofs.Math.Seq.{get_or-append_right}
+use Rattle.ground.specs.Tests.{lt_cases}
 use Rattle.ground.specs.Counts.{count}
 use Rattle.ground.specs.Lists.{part, part_front, part_back, part_all}
 
@@ -41,18 +42,17 @@ cat_split n w l e = sym (cat_take n w l ∙ take_all (w * n) l (omega arith))
 pub cat_part : (n w b : ℕ) (g : ℕ → List ℕ) → ((i : ℕ) → length (g i) ≡ w) → b < n → part (cat n g) (w * b) w ≡ g b
 unfolding cat
 cat_part zero w b g len h = absurd (omega arith)
-cat_part (suc n) w b g len h = by (λ k. cat_part n w b g len k) (dec_lt b n)
-  where
-    by : (b < n → part (cat n g) (w * b) w ≡ g b) → Dec (b < n) → part (cat n g ++ g n) (w * b) w ≡ g b
-    by ih (yes k) =
-        let m : w * suc b ≤ w * n = mul-le-mul_left w k in
-        let s : w * suc b ≡ w * b + w = mul-suc w b in
-        let c : length (cat n g) ≡ w * n = length_cat n w g (λ i _. len i) in
-        part_front (cat n g) (g n) (w * b) w (omega arith) ∙ ih k
-    by ih (no k) =
-        let e : b ≡ n = omega arith in
-        let c : length (cat n g) ≡ w * b = length_cat n w g (λ i _. len i) ∙ ap (λ (z : ℕ). w * z) (sym e) in
-        ap (λ (z : ℕ). part (cat n g ++ g n) z w) (sym (add-zero (w * b))) ∙ part_back (cat n g) (g n) (w * b) 0 w c ∙ part_all (g n) w (len n) ∙ ap g (sym e)
+cat_part (suc n) w b g len h = elim (dec_lt b n) [
+  | yes k ↦
+      let m : w * suc b ≤ w * n = mul-le-mul_left w k in
+      let s : w * suc b ≡ w * b + w = mul-suc w b in
+      let c : length (cat n g) ≡ w * n = length_cat n w g (λ i _. len i) in
+      part_front (cat n g) (g n) (w * b) w (omega arith) ∙ cat_part n w b g len k
+  | no k ↦
+      let e : b ≡ n = omega arith in
+      let c = part_back (cat n g) (g n) (w * n) 0 w (length_cat n w g (λ i _. len i)) in
+      rw (e, ← add-zero (w * n), c) (part_all (g n) w (len n))
+]
 
 -- ---- what passes, in order: for each k below n where p holds, f k
 
@@ -82,14 +82,8 @@ module _ {ℓ} {A : Type ℓ} (p : ℕ → Bool) (f : ℕ → List A) where
       (λ k l ih. omega (arith, length-append (gather k p f) (when (p k) (f k)))) n h
 
   pub gather_skip : (i n : ℕ) → i ≤ n → ((k : ℕ) → i ≤ k → k < n → p k ≡ false) → gather n p f ≡ gather i p f
-  gather_skip i zero h none = ap (λ (k : ℕ). gather k p f) (let e : 0 ≡ i = omega arith in e)
-  gather_skip i (suc n) h none = elim (le_cases i n h) [
-    | inl e ↦ ap (λ (k : ℕ). gather k p f) (sym e)
-    | inr l ↦ ap (λ (k : ℕ). gather k p f) (sym (add-one n)) ∙ gather_no n (none n l (le_refl (suc n))) ∙ gather_skip i n l (λ k a b. none k a (omega arith))
-  ]
-    where
-      le_cases : (i n : ℕ) → i ≤ suc n → (i ≡ suc n) ⊎ (i ≤ n)
-      le_cases i n h = elim (eq-or-lt_of_le h) [ inl e ↦ inl e | inr l ↦ inr (le_of_suc-le-suc l) ]
+  gather_skip i n h none = le_ind (λ (m : ℕ). m ≤ n → gather m p f ≡ gather i p f) (λ _. refl)
+      (λ k l ih m. ap (λ (z : ℕ). gather z p f) (sym (add-one k)) ∙ gather_no k (none k l m) ∙ ih (omega arith)) n h (le_refl n)
 
 pub gather_ext {ℓ} : {A : Type ℓ} (n : ℕ) (p q : ℕ → Bool) (f g : ℕ → List A) → ((i : ℕ) → i < n → p i ≡ q i) → ((i : ℕ) → i < n → f i ≡ g i) → gather n p f ≡ gather n q g
 unfolding gather cat
@@ -123,12 +117,8 @@ at_right {d = d} xs ys a = record { index = length xs + a.index; below = omega (
 pub at_cases {ℓ} : {A : Type ℓ} {d x : A} (xs ys : List A) → At d x (xs ++ ys) → At d x xs ⊎ At d x ys
 at_cases {d = d} xs ys a = elim (dec_lt a.index (length xs)) [
   | yes l ↦ inl (record { index = a.index; below = l; is = sym (get_or-append xs ys d a.index l) ∙ a.is })
-  | no l ↦ let b = a.below in let e : length xs + (a.index - length xs) ≡ a.index = omega arith in
-      inr (record {
-        index = a.index - length xs;
-        below = omega (arith, length-append xs ys);
-        is = sym (get_or-append-add xs ys (a.index - length xs) d) ∙ ap (λ (k : ℕ). get_or (xs ++ ys) k d) e ∙ a.is;
-      })
+  | no l ↦ let b = a.below in
+      inr (record { index = a.index - length xs; below = omega (arith, length-append xs ys); is = sym (get_or-append_right xs ys a.index d (omega arith)) ∙ a.is })
 ]
 
 pub single {ℓ} : {A : Type ℓ} {d x : A} (y : A) → At d x (y ∷ []) → y ≡ x
@@ -158,24 +148,16 @@ pub gather_in {ℓ} : {A : Type ℓ} {d x : A} (n : ℕ) (p : ℕ → Bool) (f :
 unfolding gather cat when
 gather_in zero p f r = absurd (not-suc-le-zero r.below)
 gather_in {d = d} {x = x} (suc n) p f r = elim (lt_cases r.below) [
-  | inl e ↦ at_right (gather n p f) (when (p n) (f n)) (go (p n) (subst (λ (k : ℕ). p k ≡ true) e r.passes) (subst (λ (k : ℕ). At d x (f k)) e r.within))
+  | inl e ↦ at_right (gather n p f) (when (p n) (f n)) (let t : p n ≡ true = rw e at r.passes in rw t (rw e at r.within))
   | inr l ↦ at_left (gather n p f) (when (p n) (f n)) (gather_in n p f (record { at = r.at; below = l; passes = r.passes; within = r.within }))
 ]
-  where
-    go : (t : Bool) → t ≡ true → At d x (f n) → At d x (when t (f n))
-    go true _ a = a
-    go false e a = ff e
 
 -- where an entry of f i stands in it
 pub gather_at {ℓ} : {A : Type ℓ} (n i j : ℕ) (p : ℕ → Bool) (f : ℕ → List A) (d : A) → i < n → p i ≡ true → j < length (f i) → get_or (gather n p f) (length (gather i p f) + j) d ≡ get_or (f i) j d
 unfolding gather cat when
 gather_at zero i j p f d l e h = absurd (not-suc-le-zero l)
 gather_at {A = A} (suc n) i j p f d l e h = elim (lt_cases l) [
-  | inl q ↦
-      ap (λ (z : ℕ). get_or (gather n p f ++ when (p n) (f n)) (length (gather z p f) + j) d) q
-      ∙ get_or-append-add (gather n p f) (when (p n) (f n)) j d
-      ∙ ap (λ (z : Bool). get_or (when z (f n)) j d) (ap p (sym q) ∙ e)
-      ∙ ap (λ (z : ℕ). get_or (f z) j d) (sym q)
+  | inl q ↦ let t : p n ≡ true = rw q at e in rw (q, t) (get_or-append-add (gather n p f) (f n) j d)
   | inr k ↦
       get_or-append (gather n p f) (when (p n) (f n)) d (length (gather i p f) + j)
       (omega (arith, gather_le p f (i + 1) n (omega arith), ap length (gather_yes p f i e), length-append (gather i p f) (f i)))

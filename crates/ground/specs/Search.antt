@@ -1,6 +1,6 @@
 -- What `find` over a range and `position` over a list answer where the closure computes a test: the lowest number that passes.
-use Rattle.std.specs.Prelude.{ℕ, ◌≤◌, ◌<◌, ◌≡◌, suc, ◌+◌, cond, not, refl, length, get_or, Bool, true, false, List, [], ◌∷◌, Option, Some, None, MatchOption, ⊤}
-use Rattle.std.proofs.Common.{sym, ◌∙◌, arith, le_refl}
+use Rattle.std.specs.Prelude.{ℕ, ◌≤◌, ◌<◌, ◌≡◌, suc, refl, length, get_or, Bool, true, false, List, [], ◌∷◌, Option, Some, None, MatchOption, ⊤}
+use Rattle.std.proofs.Common.{sym, ◌∙◌, inl, inr, arith, le_refl}
 use Rattle.std.proofs.Math.Decide.{dec_lt}
 use Rattle.std.proofs.lemmas.Iterator.{YieldsList, first_from_Range}
 use Rattle.std.proofs.lemmas.Iterator.Search.{position_from_yields_List}
@@ -11,7 +11,7 @@ use Rattle.std.specs.List.{FoldsTo, position_or_len}
 use Rattle.std.specs.declared.ops.Range.{Range}
 use denote.Param.Members.{Mut}
 use denote.Ref.{Bor}
-use Rattle.ground.specs.Tests.{first, found, found_some, found_none}
+use Rattle.ground.specs.Tests.{bool_cases, first, found, found_some, found_none}
 
 module _ (a n : ℕ) (p : ℕ → Bool) (early : (k : ℕ) → k < a → p k ≡ false) where
   -- what a call with the number says of its test, where the number is in the range
@@ -37,11 +37,10 @@ module _ (a n : ℕ) (p : ℕ → Bool) (early : (k : ℕ) → k < a → p k ≡
 first_item : {B : Type 0} (test : B → Bool) (d : B) (xs : List B) (p : ℕ → Bool) → ((i : ℕ) → i < length xs → p i ≡ test (get_or xs i d)) → position_or_len test xs ≡ first (length xs) p
 unfolding first
 first_item test d [] p e = refl
-first_item test d (x ∷ xs) p e = turned (test x) (p 0) _ _ (e 0 (omega arith)) (first_item test d xs (λ i. p (suc i)) (λ i l. e (suc i) (omega arith)))
-  where
-    turned : (t u : Bool) (a b : ℕ) → u ≡ t → a ≡ b → cond (not t) (1 + a) 0 ≡ cond u 0 (suc b)
-    turned true u a b e q = rw e
-    turned false u a b e q = rw (e, q) (omega arith)
+first_item test d (x ∷ xs) p e = let r = first_item test d xs (λ i. p (suc i)) (λ i l. e (suc i) (omega arith)) in elim (bool_cases (test x)) [
+  | inl t ↦ rw (e 0 (omega arith), t)
+  | inr t ↦ rw (e 0 (omega arith), t) (omega arith)
+]
 
 pub found_at : {S A B F : Type 0} {steps : S → Option A → S → Type 0} {v : A → B} {g : Mut F (A × Unit {0}) Bool} {s : S} {xs : List B} (test : B → Bool) (d : B) (p : ℕ → Bool) (u : S) (f : F) (r : Option ℕ)
     → (ys : List A) × (o : Option A) × (j : F) × YieldsThen steps s ys o u × FoldsTo (λ q x q'. Called g q (x, tt) false q') f ys j × MatchOption o (r ≡ None) (λ x. (r ≡ Some (length ys)) × ((q : F) × Called g j (x, tt) true q))

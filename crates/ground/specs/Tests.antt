@@ -2,8 +2,9 @@
 -- A fact of a test is `t ≡ true`, as the branches of code hand it over. `all` and `any` recurse on the bound from above, which is the step of a loop that counts upward.
 -- How many numbers pass is in Counts.antt.
 use Rattle.std.specs.Prelude.{◌≡◌, refl, Bool, true, false, cond, not, ◌&&◌, ◌||◌, ◌⊎◌, ℕ, zero, suc, ◌+◌, ◌≤◌, ◌<◌, ltb, Option, Some, None, unwrap_or}
-use Rattle.std.proofs.Common.{sym, ap, ap₂, inl, inr, arith, not-suc-le-zero, eq-or-lt_of_le, le_of_suc-le-suc, le_refl, add-one, ltb-false, le-ltb, lt-ltb}
-use Rattle.std.proofs.lemmas.Bool.{false≢true}
+use Rattle.std.proofs.Common.{ap, ap₂, inl, inr, arith, not-suc-le-zero, eq-or-lt_of_le, le_of_suc-le-suc, le_refl, ltb-false, le-ltb, lt-ltb}
+use Rattle.std.proofs.lemmas.Bool.Decides.{same_from_decides, nat_tests}
+use Rattle.std.proofs.lemmas.Bool.{false≢true, and_parts, or_parts, or_left, or_right, cases_Bool, cases_eq, false_from_ne_true}
 
 -- ---- tests as facts
 
@@ -14,39 +15,31 @@ pub and_in : {a b : Bool} → a ≡ true → b ≡ true → (a && b) ≡ true
 and_in p q = rw p q
 
 pub and_l : (a b : Bool) → (a && b) ≡ true → a ≡ true
-and_l true b e = refl
-and_l false b e = ff e
+and_l a b e = (and_parts a b e).0
 
 pub and_r : (a b : Bool) → (a && b) ≡ true → b ≡ true
-and_r true b e = e
-and_r false b e = ff e
+and_r a b e = (and_parts a b e).1
 
 pub and_cases : (a b : Bool) → (a && b) ≡ false → (a ≡ false) ⊎ (b ≡ false)
-and_cases true b e = inr e
-and_cases false b e = inl refl
+and_cases = Rattle.std.proofs.lemmas.Bool.and_cases
 
 pub or_cases : (a b : Bool) → (a || b) ≡ true → (a ≡ true) ⊎ (b ≡ true)
-or_cases true b e = inl refl
-or_cases false b e = inr e
+or_cases = Rattle.std.proofs.lemmas.Bool.or_cases
 
 pub bool_cases : (t : Bool) → (t ≡ true) ⊎ (t ≡ false)
-bool_cases true = inl refl
-bool_cases false = inr refl
+bool_cases = cases_Bool
 
 pub or_l : (a b : Bool) → a ≡ true → (a || b) ≡ true
-or_l a b e = rw e refl
+or_l = or_left
 
 pub or_r : (a b : Bool) → b ≡ true → (a || b) ≡ true
-or_r true b e = refl
-or_r false b e = e
+or_r = or_right
 
 pub none_l : (a b : Bool) → (a || b) ≡ false → a ≡ false
-none_l true b e = e
-none_l false b e = refl
+none_l a b e = (or_parts a b e).0
 
 pub none_r : (a b : Bool) → (a || b) ≡ false → b ≡ false
-none_r true b e = ff (sym e)
-none_r false b e = e
+none_r a b e = (or_parts a b e).1
 
 -- "if p then q", as a test
 pub implies_in : (p q : Bool) → (p ≡ true → q ≡ true) → (not p || q) ≡ true
@@ -59,9 +52,7 @@ implies_out false q e p = ff p
 
 -- two tests that imply one another are equal
 pub same_test : (a b : Bool) → (a ≡ true → b ≡ true) → (b ≡ true → a ≡ true) → a ≡ b
-same_test true b f g = sym (f refl)
-same_test false true f g = g refl
-same_test false false f g = refl
+same_test a b f g = same_from_decides {P = b ≡ true} a b (f, g) ((λ e. e), (λ e. e))
 
 -- ---- every number below n passes, and some number below n does
 
@@ -86,15 +77,13 @@ unfolding all
 all_out zero p e i l = absurd (not-suc-le-zero l)
 all_out (suc n) p e i l = elim (lt_cases l) [ inl q ↦ rw q (and_r (all n p) (p n) e) | inr k ↦ all_out n p (and_l (all n p) (p n) e) i k ]
 
-pub none_out : (n : ℕ) (p : ℕ → Bool) → any n p ≡ false → (i : ℕ) → i < n → p i ≡ false
-unfolding any
-none_out zero p e i l = absurd (not-suc-le-zero l)
-none_out (suc n) p e i l = elim (lt_cases l) [ inl q ↦ rw q (none_r (any n p) (p n) e) | inr k ↦ none_out n p (none_l (any n p) (p n) e) i k ]
-
 pub any_in : (n : ℕ) (p : ℕ → Bool) (i : ℕ) → i < n → p i ≡ true → any n p ≡ true
 unfolding any
 any_in zero p i l e = absurd (not-suc-le-zero l)
 any_in (suc n) p i l e = elim (lt_cases l) [ inl q ↦ or_r (any n p) (p n) (rw q at e) | inr k ↦ or_l (any n p) (p n) (any_in n p i k e) ]
+
+pub none_out : (n : ℕ) (p : ℕ → Bool) → any n p ≡ false → (i : ℕ) → i < n → p i ≡ false
+none_out n p e i l = false_from_ne_true (p i) (λ t. let h = any_in n p i l t in cc)
 
 pub any_ext : (n : ℕ) (p q : ℕ → Bool) → ((i : ℕ) → i < n → p i ≡ q i) → any n p ≡ any n q
 unfolding any
@@ -121,61 +110,17 @@ unfoldable pub first : ℕ → (ℕ → Bool) → ℕ
 first zero p = 0
 first (suc n) p = cond (p 0) 0 (suc (first n (λ i. p (suc i))))
 
--- a search that starts, passes a number by, finds one, and comes to its end
-pub first_start : (p : ℕ → Bool) → first 0 p ≡ 0
-unfolding first
-first_start p = refl
-
-passed_by : (t : Bool) (x i : ℕ) → cond t 0 (suc x) ≡ suc i → (t ≡ false) × (x ≡ i)
-passed_by true x i e = absurd (omega arith)
-passed_by false x i e = (refl, omega arith)
-
-first_suc : (i : ℕ) (p : ℕ → Bool) → first i p ≡ i → p i ≡ false → first (suc i) p ≡ suc i
-unfolding first
-first_suc zero p e h = rw h
-first_suc (suc i) p e h =
-    let q = passed_by (p 0) (first i (λ k. p (suc k))) i e in
-    rw q.0 (ap suc (first_suc i (λ k. p (suc k)) q.1 h))
-
-pub first_more : (i : ℕ) (p : ℕ → Bool) → first i p ≡ i → p i ≡ false → first (i + 1) p ≡ i + 1
-first_more i p e h = rw (add-one i) (first_suc i p e h)
-
-pub first_found : (n i : ℕ) (p : ℕ → Bool) → i < n → first i p ≡ i → p i ≡ true → first n p ≡ i
-unfolding first
-first_found zero i p l e h = absurd (omega arith)
-first_found (suc n) zero p l e h = rw h
-first_found (suc n) (suc i) p l e h =
-    let q = passed_by (p 0) (first i (λ k. p (suc k))) i e in
-    rw q.0 (ap suc (first_found n i (λ k. p (suc k)) (omega arith) q.1 h))
-
-pub first_none : (n : ℕ) (p : ℕ → Bool) → ((i : ℕ) → i < n → p i ≡ false) → first n p ≡ n
-unfolding first
-first_none zero p h = refl
-first_none (suc n) p h = rw (h 0 (omega arith)) (ap suc (first_none n (λ k. p (suc k)) (λ i l. h (suc i) (omega arith))))
-
 -- what it finds: it is within the bound, what stands before it fails, and it passes
-cond_le : (t : Bool) (x n : ℕ) → x ≤ n → cond t 0 (suc x) ≤ suc n
-cond_le true x n h = omega arith
-cond_le false x n h = omega arith
-
 pub first_le : (n : ℕ) (p : ℕ → Bool) → first n p ≤ n
 unfolding first
 first_le zero p = omega arith
-first_le (suc n) p = cond_le (p 0) (first n (λ i. p (suc i))) n (first_le n (λ i. p (suc i)))
-
-below_zero : (t : Bool) (x : ℕ) → 0 < cond t 0 x → t ≡ false
-below_zero true x h = absurd (omega arith)
-below_zero false x h = refl
-
-below_suc : (t : Bool) (x i : ℕ) → suc i < cond t 0 (suc x) → i < x
-below_suc true x i h = absurd (omega arith)
-below_suc false x i h = omega arith
+first_le (suc n) p = let h = first_le n (λ i. p (suc i)) in grind arith
 
 pub first_below : (n : ℕ) (p : ℕ → Bool) (i : ℕ) → i < first n p → p i ≡ false
 unfolding first
 first_below zero p i h = absurd (omega arith)
-first_below (suc n) p zero h = below_zero (p 0) (suc (first n (λ k. p (suc k)))) h
-first_below (suc n) p (suc i) h = first_below n (λ k. p (suc k)) i (below_suc (p 0) (first n (λ k. p (suc k))) i h)
+first_below (suc n) p zero h = grind arith
+first_below (suc n) p (suc i) h = first_below n (λ k. p (suc k)) i (grind arith)
 
 pub first_passes : (n : ℕ) (p : ℕ → Bool) → first n p < n → p (first n p) ≡ true
 unfolding first
@@ -184,6 +129,26 @@ first_passes (suc n) p h = elim (bool_cases (p 0)) [
   | inl e ↦ rw e e
   | inr e ↦ let l : suc (first n (λ i. p (suc i))) < suc n = rw e at h in rw e (first_passes n (λ i. p (suc i)) (omega arith))
 ]
+
+-- a search that starts, comes to its end, passes a number by, and finds one
+pub first_start : (p : ℕ → Bool) → first 0 p ≡ 0
+unfolding first
+first_start p = refl
+
+pub first_none : (n : ℕ) (p : ℕ → Bool) → ((i : ℕ) → i < n → p i ≡ false) → first n p ≡ n
+unfolding first
+first_none zero p h = refl
+first_none (suc n) p h = rw (h 0 (omega arith)) (ap suc (first_none n (λ k. p (suc k)) (λ i l. h (suc i) (omega arith))))
+
+pub first_more : (i : ℕ) (p : ℕ → Bool) → first i p ≡ i → p i ≡ false → first (i + 1) p ≡ i + 1
+first_more i p e h = first_none (i + 1) p (λ k l. elim (cases_eq k i) [ inl q ↦ rw q h | inr n ↦ first_below i p k (omega arith) ])
+
+pub first_found : (n i : ℕ) (p : ℕ → Bool) → i < n → first i p ≡ i → p i ≡ true → first n p ≡ i
+unfolding first
+first_found zero i p l e h = absurd (omega arith)
+first_found (suc n) zero p l e h = rw h
+first_found (suc n) (suc i) p l e h =
+    let x : first i (λ k. p (suc k)) ≡ i = grind arith in let r = first_found n i (λ k. p (suc k)) (omega arith) x h in grind arith
 
 pub first_ext : (n : ℕ) (p q : ℕ → Bool) → ((i : ℕ) → i < n → p i ≡ q i) → first n p ≡ first n q
 unfolding first
@@ -216,10 +181,7 @@ found_none n p none = rw (first_passed n p none)
 
 -- as a number again, n where there is none
 pub found_or : (n : ℕ) (p : ℕ → Bool) → unwrap_or (found n p) n ≡ first n p
-found_or n p = elim (bool_cases (ltb (first n p) n)) [
-  | inl e ↦ rw e
-  | inr e ↦ rw e (let h = ltb-false (first n p) n e in let k = first_le n p in omega arith)
-]
+found_or n p = let k = first_le n p in grind (arith, nat_tests)
 
 pub found_ext : (n : ℕ) (p q : ℕ → Bool) → ((i : ℕ) → i < n → p i ≡ q i) → found n p ≡ found n q
 found_ext n p q e = rw (first_ext n p q e)

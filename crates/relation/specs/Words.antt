@@ -1,16 +1,17 @@
 -- A relation in words: four words for each row, the bit of row B and column A in word A / 64 of the row at A % 64.
 -- Sets of pairs that other layers keep are held in the same way.
-use Rattle.std.specs.Prelude.{◌≡◌, refl, Bool, true, false, ◌&&◌, ◌||◌, List, ◌++◌, ℕ, ◌+◌, ◌*◌, ◌/◌, ◌%◌, ◌^◌, ◌≤◌, ◌<◌, eqb, ltb, length, set, drop, replicate}
-use Rattle.std.proofs.Math.Path.{sym, ap, ap₂}
-use Rattle.std.proofs.Common.{◌∙◌, one-mul, length-set, length-append, length-drop, get_or-set_other, shl_exact, arith}
+use Rattle.std.specs.Prelude.{◌≡◌, Bool, true, false, ◌&&◌, ◌||◌, List, ◌++◌, ℕ, ◌+◌, ◌*◌, ◌/◌, ◌%◌, ◌^◌, ◌≤◌, ◌<◌, eqb, ltb, length, set, drop, replicate}
+use Rattle.std.proofs.Math.Path.{sym, ap}
+use Rattle.std.proofs.Common.{◌∙◌, length-set, length-append, length-drop, get_or-set_other, arith}
+use Rattle.std.proofs.Math.Bool.{or-false}
 use Rattle.std.proofs.Math.Decide.{ℕ_discrete}
 use Rattle.std.proofs.Math.ListN.{get_or, get_or-append}
 use Rattle.std.proofs.lemmas.List.{get_or-replicate}
 use Rattle.std.proofs.Math.Seq.{get_or-set_same}
 use Rattle.std.specs.Int.Bits.{bit_and, bit_or}
-use Rattle.std.proofs.lemmas.Nat.{and_mask}
-use Rattle.std.proofs.lemmas.Bool.{eqb-true, eq-eqb, lt-ltb, ltb-true}
-use Rattle.ground.specs.Tests.{and_in, and_l, and_r, same_test}
+use Rattle.std.proofs.lemmas.Nat.{and_mask, one_shl}
+use Rattle.std.proofs.lemmas.Bool.Decides.{nat_tests}
+use Rattle.std.proofs.lemmas.Bool.{lt-ltb}
 use Rattle.ground.specs.Relations.{Rel}
 use Rattle.ground.specs.Lists.{tabulate, length_tabulate, get_or_tabulate}
 use Rattle.ground.specs.Bits.{has, has_or, has_pow, has_zero, has_word, word_of, word_lt, same_bits}
@@ -38,13 +39,13 @@ pub cut_in : (n : ℕ) (r : Rel) (b a : ℕ) → b < n → a < n → cut n r b a
 cut_in n r b a h l = rw (lt-ltb b n h, lt-ltb a n l)
 
 pub cut_inside : (n : ℕ) (r : Rel) (b a : ℕ) → cut n r b a ≡ true → (b < n) × (a < n)
-cut_inside n r b a e = (ltb-true b n (and_l (ltb b n) (ltb a n && r b a) e), ltb-true a n (and_l (ltb a n) (r b a) (and_r (ltb b n) (ltb a n && r b a) e)))
+cut_inside n r b a e = (grind (arith, nat_tests), grind (arith, nat_tests))
 
 -- ---- the bits of such a buffer are the relation's
 
 pub length_over_relation : (n : ℕ) (r : Rel) (old : List ℕ) → 1024 ≤ length old → length (relation_over n r old) ≡ length old
 unfolding relation_over
-length_over_relation n r old h = length-append (tabulate 1024 (word_in n r)) (drop 1024 old) ∙ omega (arith, length_tabulate 1024 (word_in n r), length-drop 1024 old)
+length_over_relation n r old h = simp (length-append, length_tabulate, length-drop) (omega arith)
 
 pub word_over : (n : ℕ) (r : Rel) (old : List ℕ) (w : ℕ) → w < 1024 → get_or (relation_over n r old) w 0 ≡ word_in n r w
 unfolding relation_over
@@ -53,12 +54,9 @@ word_over n r old w l = get_or-append (tabulate 1024 (word_in n r)) (drop 1024 o
 pub bit_over : (n : ℕ) (r : Rel) (old : List ℕ) (b a : ℕ) → b < 256 → a < 256 → bit_of (relation_over n r old) b a ≡ cut n r b a
 unfolding bit_of word_in
 bit_over n r old b a bl al =
-    let w : ℕ = 4 * b + a / 64 in
     let row : (4 * b + a / 64) / 4 ≡ b = omega arith in
     let col : (4 * b + a / 64) % 4 * 64 + a % 64 ≡ a = omega arith in
-    ap (λ (x : ℕ). has x (a % 64)) (word_over n r old (4 * b + a / 64) (omega arith))
-    ∙ has_word 64 (bit_in n r (4 * b + a / 64)) (a % 64) (omega arith)
-    ∙ ap₂ (λ (y x : ℕ). ltb y n && (ltb x n && r y x)) row col
+    rw (word_over n r old (4 * b + a / 64) (omega arith), has_word 64 (bit_in n r (4 * b + a / 64)) (a % 64) (omega arith), row, col)
 
 pub words_fit : (n : ℕ) (r : Rel) (old : List ℕ) (w : ℕ) → w < 1024 → get_or (relation_over n r old) w 0 < 2 ^ 64
 unfolding word_in
@@ -90,35 +88,20 @@ with_pair ws b a = set ws (4 * b + a / 64) (bit_or (get_or ws (4 * b + a / 64) 0
 
 pub pair_set : (ws : List ℕ) (b a : ℕ) → set ws (4 * b + a / 64) (bit_or (get_or ws (4 * b + a / 64) 0) (1 * 2 ^ (a % 64) % 2 ^ 64)) ≡ with_pair ws b a
 unfolding with_pair
-pair_set ws b a =
-    let e : 1 * 2 ^ (a % 64) % 2 ^ 64 ≡ 2 ^ (a % 64) = shl_exact 1 (a % 64) 64 (omega arith) (omega arith) ∙ one-mul (2 ^ (a % 64)) in
-    ap (λ (z : ℕ). set ws (4 * b + a / 64) (bit_or (get_or ws (4 * b + a / 64) 0) z)) e
+pair_set ws b a = rw (one_shl (a % 64) 64 (omega arith))
 
 pub length_pair : (ws : List ℕ) (b a : ℕ) → length (with_pair ws b a) ≡ length ws
 unfolding with_pair
 length_pair ws b a = length-set ws (4 * b + a / 64) (bit_or (get_or ws (4 * b + a / 64) 0) (2 ^ (a % 64)))
 
-none : (p q : Bool) → (p ≡ true → q ≡ true → ⊥) → (p && q) ≡ false
-none true true f = absurd (f refl refl)
-none true false f = refl
-none false q f = refl
-
-or_false : (p : Bool) → (p || false) ≡ p
-or_false true = refl
-or_false false = refl
-
 module _ (ws : List ℕ) (b a : ℕ) (long : 1024 ≤ length ws) (bl : b < 256) (al : a < 256) where
   pub bit_with : (y x : ℕ) → y < 256 → x < 256 → bit_of (with_pair ws b a) y x ≡ (bit_of ws y x || (eqb b y && eqb a x))
   unfolding bit_of with_pair
   bit_with y x yl xl = elim (ℕ_discrete (4 * y + x / 64) (4 * b + a / 64)) [
-    | yes e ↦ let same : b ≡ y = omega arith in
-        ap (λ (z : ℕ). has z (x % 64)) (ap (λ (k : ℕ). get_or (set ws (4 * b + a / 64) (bit_or (get_or ws (4 * b + a / 64) 0) (2 ^ (a % 64)))) k 0) e ∙ get_or-set_same ws (4 * b + a / 64) _ 0 (omega arith))
-        ∙ has_or (get_or ws (4 * b + a / 64) 0) (2 ^ (a % 64)) (x % 64)
-        ∙ ap₂ (λ (s t : Bool). s || t) (ap (λ (k : ℕ). has (get_or ws k 0) (x % 64)) (sym e))
-        (has_pow (a % 64) (x % 64) ∙ same_test _ _ (λ t. let q = eqb-true (a % 64) (x % 64) t in and_in (eq-eqb b y same) (eq-eqb a x (omega arith)))
-        (λ t. let q = eqb-true a x (and_r (eqb b y) (eqb a x) t) in eq-eqb (a % 64) (x % 64) (omega arith)))
-    | no e ↦ ap (λ (z : ℕ). has z (x % 64)) (get_or-set_other ws (4 * b + a / 64) (4 * y + x / 64) _ 0 e)
-        ∙ sym (ap (λ (t : Bool). bit_of ws y x || t) (none (eqb b y) (eqb a x) (λ p q. e (let p' = eqb-true b y p in let q' = eqb-true a x q in omega arith))) ∙ or_false (bit_of ws y x))
+    | yes e ↦ let same : b ≡ y = omega arith in let t : eqb (a % 64) (x % 64) ≡ (eqb b y && eqb a x) = grind (arith, nat_tests) in
+        rw (e, get_or-set_same ws (4 * b + a / 64) _ 0 (omega arith), has_or (get_or ws (4 * b + a / 64) 0) (2 ^ (a % 64)) (x % 64), has_pow (a % 64) (x % 64), t)
+    | no e ↦ let n : (eqb b y && eqb a x) ≡ false = grind (arith, nat_tests) in
+        rw (get_or-set_other ws (4 * b + a / 64) (4 * y + x / 64) _ 0 e, n) (sym (or-false (bit_of ws y x)))
   ]
 
 -- no bit is set in words that are zero

@@ -86,17 +86,9 @@ length_names (suc k) p h = elim (bool_cases (p k)) [
 
 pub length_line : (n : ℕ) (r : Rel) (b : ℕ) → n ≤ 256 → b < n → length (line_of n r b) ≤ 1040
 unfolding line_of
-length_line n r b h l =
-    omega (
-      arith,
-      length-append (decimal b) (codes ":" ++ (names_of n (r b) ++ codes "\n")),
-      length-append (codes ":") (names_of n (r b) ++ codes "\n"),
-      length-append (names_of n (r b)) (codes "\n"),
-      length_names n (r b) h,
-      length_class b (omega arith),
-    )
+length_line n r b h l = simp length-append (omega (arith, length_names n (r b) h, length_class b (omega arith)))
 
 pub length_lines : (n : ℕ) (r : Rel) (k : ℕ) → n ≤ 256 → k ≤ n → length (lines_of n r k) ≤ k * 1040
 unfolding lines_of cat
 length_lines n r zero h l = omega arith
-length_lines n r (suc k) h l = omega (arith, length-append (lines_of n r k) (line_of n r k), length_lines n r k h (omega arith), length_line n r k h (omega arith))
+length_lines n r (suc k) h l = simp length-append (omega (arith, length_lines n r k h (omega arith), length_line n r k h (omega arith)))

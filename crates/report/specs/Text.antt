@@ -1,12 +1,17 @@
--- Text as bytes: decimal numbers, and a text written into a buffer.
-use Rattle.std.specs.Prelude.{ℕ, ◌+◌, ◌≤◌, ◌≡◌, refl, List, [], ◌∷◌, ◌++◌, length}
-use Rattle.std.proofs.Common.{subst, ap, ◌∙◌, arith, length-append}
+-- Text as bytes: how long a number is, and a text written into a buffer.
+use Rattle.std.specs.Prelude.{ℕ, ◌+◌, ◌≤◌, ◌<◌, ◌≡◌, refl, decimal, List, [], ◌∷◌, ◌++◌, length}
+use Rattle.std.proofs.Common.{subst, sym, ap, ◌∙◌, arith, length-append}
+use Rattle.std.proofs.lemmas.Fmt.{length-decimal-le}
 use Rattle.std.proofs.Math.Seq.{drop-drop}
 use borrow.Rule.Slice.PartMut.{put_mid}
 use Rattle.std.specs.Borrow.{GName}
 use Rattle.std.specs.Fmt.{WritesInCalls}
 use Rattle.std.specs.List.{FoldsTo, concat}
 use Rattle.ground.specs.Lists.{over, over_none, over_more, length_over}
+
+-- a text of at most eight bytes and a number
+pub length_count : (ws : List ℕ) (v : ℕ) → length ws ≤ 8 → v < 100000 → length (ws ++ decimal v) ≤ 13
+length_count ws v h l = omega (arith, length-append ws (decimal v), length-decimal-le 5 v (omega arith) (omega arith) (omega arith))
 
 -- ---- the bytes xs were written from byte `at` on, and the next is byte e
 pub record Wrote (at : ℕ) (xs old new : List ℕ) (e : ℕ) : Type 0 where
@@ -24,9 +29,13 @@ wrote_more at e f xs ys old mid new h a b = record {
   long = b.long ∙ a.long;
 }
 
+-- a text that was written leaves one buffer and one next place
+pub write-into-determined : (at : ℕ) (xs old r s : List ℕ) (e f : ℕ) → Wrote at xs old r e → Wrote at xs old s f → (r ≡ s) × (e ≡ f)
+write-into-determined at xs old r s e f a b = (a.contents ∙ sym b.contents, a.next ∙ sym b.next)
+
 -- the same, said of equal lists, as where branches meet
 pub wrote_as : (at e f : ℕ) (xs ys old new cur : List ℕ) → xs ≡ ys → cur ≡ new → f ≡ e → Wrote at xs old new e → Wrote at ys old cur f
-wrote_as at e f xs ys old new cur p q r w = record { next = r ∙ w.next ∙ ap (λ (l : List ℕ). at + length l) p; contents = q ∙ w.contents ∙ ap (λ (l : List ℕ). over at l old) p; long = ap length q ∙ w.long }
+wrote_as at e f xs ys old new cur p q r w = rw (← p, q, r) w
 
 -- a part of a buffer in whose place xs came
 pub put_over : (at k : ℕ) (xs old new : List ℕ) → at + length xs ≤ length old → k ≡ length xs → new ≡ xs → Wrote at xs old (put_mid at k old new) (at + length xs)

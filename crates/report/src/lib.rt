@@ -100,16 +100,6 @@ impl fmt::Display for Refused {
     }
 }
 
-// Puts a text into a buffer, from `at` on; answers where the next byte goes.
-fn put_text(out: &mut [u8], at: usize, text: &[u8]) -> usize
-    requires { at + length text.now ≤ length out.old }
-    ensures { Wrote at text.now out.old out.new result }
-{
-    let end = at + text.len();
-    out[at..end].copy_from_slice(text);
-    end
-}
-
 // A lent buffer that is written into, one text after another.
 #[derive(Drop)]
 struct Page<'a> {
@@ -130,25 +120,20 @@ impl fmt::Write for Page<'_> {
         if self.out.len() - self.at < s.len() {
             return Err(fmt::Error);
         }
-        self.at = put_text(self.out, self.at, s.as_bytes());
+        let end = self.at + s.len();
+        self.out[self.at..end].copy_from_slice(s.as_bytes());
+        self.at = end;
         Ok(())
     }
 }
 
-// Writes a value's text into a lent buffer, from `at` on; answers where the next byte goes. Where there is no room it is an error, and what was
-// written before stays.
-pub fn write_into<D: fmt::Display + Drop>(
-    out: &mut [u8],
-    at: usize,
-    value: D,
-) -> Result<usize, fmt::Error>
-    ensures ok { IfOk result (λ next. IfSome (D.output value) (λ text. Wrote at text out.old out.new next × (next ≤ length out.old))) }
+// Writes a value's text into a lent buffer, from its front; answers how long it is. Where there is no room it is an error, and what was written
+// before stays.
+pub fn write_into<D: fmt::Display + Drop>(out: &mut [u8], value: D) -> Result<usize, fmt::Error>
+    ensures ok { IfOk result (λ len. IfSome (D.output value) (λ text. Wrote 0 text out.old out.new len × (len ≤ length out.old))) }
     ensures len { length out.new ≡ length out.old }
 {
-    if out.len() < at {
-        return Err(fmt::Error);
-    }
-    let mut page = Page { out, at };
+    let mut page = Page { out, at: 0 };
     page.write(value)?;
     Ok(page.at)
 }

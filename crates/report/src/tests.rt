@@ -42,22 +42,23 @@ fn a_chain(rt: HostRuntime) {
     };
     let lines = Lines::new(CHAIN, &relation).expect(&rt, "a relation of six classes");
     let mut out = [b'#'; 100];
-    let next = write_into(&mut out, 0, header).expect(&rt, "room for a header");
-    let end = write_into(&mut out, next, lines).expect(&rt, "room for six lines");
-    let want = "classes 6 edges 4 rounds 2\n0: 0\n1: 1\n2: 2\n3: 0 3\n4: 0 1 3 4\n5: 0 1 2 3 4 5\n";
-    assert_eq!(rt; &out[..end], want.as_bytes());
-    assert!(rt; out[end..].iter().all(|byte| *byte == b'#'));
+    let first = write_into(&mut out, header).expect(&rt, "room for a header");
+    assert_eq!(rt; &out[..first], "classes 6 edges 4 rounds 2\n".as_bytes());
+    let rest = &mut out[first..];
+    let len = write_into(rest, lines).expect(&rt, "room for six lines");
+    let want = "0: 0\n1: 1\n2: 2\n3: 0 3\n4: 0 1 3 4\n5: 0 1 2 3 4 5\n";
+    assert_eq!(rt; &rest[..len], want.as_bytes());
+    assert!(rt; rest[len..].iter().all(|byte| *byte == b'#'));
 }
 
 #[test]
 fn a_refusal(rt: HostRuntime) {
-    let mut out = [b'#'; 16];
-    let end = write_into(&mut out, 1, Refused(Refusal::BadBlock(1))).expect(&rt, "just room");
-    assert_eq!(rt; end, 16);
-    assert_eq!(rt; &out[..], "#refused 3 at 1\n".as_bytes());
-    let mut short = [b'#'; 15];
-    assert!(rt; write_into(&mut short, 1, Refused(Refusal::BadBlock(1))).is_err());
-    assert!(rt; write_into(&mut short, 16, Refused(Refusal::BadBlock(1))).is_err());
+    let mut out = [b'#'; 15];
+    let len = write_into(&mut out, Refused(Refusal::BadBlock(1))).expect(&rt, "just room");
+    assert_eq!(rt; len, 15);
+    assert_eq!(rt; &out[..], "refused 3 at 1\n".as_bytes());
+    let mut short = [b'#'; 14];
+    assert!(rt; write_into(&mut short, Refused(Refusal::BadBlock(1))).is_err());
 }
 
 #[test]

@@ -16,11 +16,11 @@ module _ (n : ℕ) (p : ℕ → Bool) (r : ℕ → Refusal) where
   pub refused : (i : ℕ) → found n p ≡ Some i → refuse_first n p r ≡ Err (r i)
   refused i e = elim (bool_cases (ltb (first n p) n)) [
     | inl t ↦ let k = rw t at e in let q : first n p ≡ i = cc in rw (t, q)
-    | inr t ↦ let k = rw t at e in absurd (let z : ◌≡◌ {A = ℕ} 0 1 = cc in omega arith)
+    | inr t ↦ let k = rw t at e in cc
   ]
 
   pub passed : found n p ≡ None → refuse_first n p r ≡ Ok tt
   passed e = elim (bool_cases (ltb (first n p) n)) [
-    | inl t ↦ let k = rw t at e in absurd (let z : ◌≡◌ {A = ℕ} 0 1 = cc in omega arith)
+    | inl t ↦ let k = rw t at e in cc
     | inr t ↦ rw t
   ]

@@ -1,11 +1,11 @@
 -- An allowed table: within the limits, labels below p, edges in range and strictly ascending. The check refuses nothing exactly if the buffers are long enough
 -- and the table is allowed.
-use Rattle.std.specs.Prelude.{ℕ, zero, suc, ◌+◌, ◌-◌, ◌≤◌, ◌<◌, ◌≡◌, refl, true, ◌||◌, ◌⊎◌, ◌↔◌, length, ltb, Ok}
-use Rattle.std.proofs.Common.{sym, subst, ◌∙◌, true≢false, inl, inr, arith, add-sub_cancel, add-one}
-use Rattle.std.proofs.Math.Bool.{Bool, false, not}
-use Rattle.std.proofs.Math.Dec.{leb}
-use Rattle.std.proofs.lemmas.Bool.{leb-false, lt-leb, ltb-false, le-ltb, lt-ltb, not-false}
-use Rattle.ground.specs.Tests.{first_passed, and_cases, none_l, none_r}
+use Rattle.std.specs.Prelude.{ℕ, zero, suc, ◌+◌, ◌≤◌, ◌<◌, ◌≡◌, refl, true, ◌↔◌, length, Ok}
+use Rattle.std.proofs.Common.{sym, arith, add-sub_cancel, add-one}
+use Rattle.std.proofs.Math.Bool.{false}
+use Rattle.std.proofs.lemmas.Bool.Decides.{nat_tests}
+use Rattle.std.proofs.lemmas.Bool.{lt-leb, le-ltb, lt-ltb, not-false}
+use Rattle.ground.specs.Tests.{first_passed}
 use Rattle.theory.specs.Graph.{Closed}
 use Rattle.table.specs.Limits.{class_limit, edge_limit, label_limit, role_limit, labels_length, edges_length}
 use Rattle.table.specs.Answer.{refuse, refuse_first, then_done, refuse_done, refuse_first_done}
@@ -35,43 +35,8 @@ closed t A = A.targets
 
 -- ---- the tests, taken apart and put together
 
-or_false : (a b : Bool) → a ≡ false → b ≡ false → (a || b) ≡ false
-or_false a b e f = rw (e, f)
-
 pub within_limits : (n m p q : ℕ) → over_limit n m p q ≡ false → (n ≤ class_limit) × (m ≤ edge_limit) × (p ≤ label_limit) × (q ≤ role_limit)
-within_limits n m p q e =
-    let a : Bool = ltb class_limit n in
-    let b : Bool = ltb edge_limit m in
-    let c : Bool = ltb label_limit p in
-    let d : Bool = ltb role_limit q in
-    let f = none_r a (b || (c || d)) e in
-    let g = none_r b (c || d) f in
-    (ltb-false _ _ (none_l a (b || (c || d)) e), ltb-false _ _ (none_l b (c || d) f), ltb-false _ _ (none_l c d g), ltb-false _ _ (none_r c d g))
-
-limits_kept : (n m p q : ℕ) → n ≤ class_limit → m ≤ edge_limit → p ≤ label_limit → q ≤ role_limit → over_limit n m p q ≡ false
-limits_kept n m p q hn hm hp hq = rw (le-ltb _ _ hn, le-ltb _ _ hm, le-ltb _ _ hp, le-ltb _ _ hq)
-
-module _ (t : Lent) (i : ℕ) where
-  within : edge_wrong t.n t.q t.edges i ≡ false → (source_of t.edges i < t.n) × (role_of t.edges i < t.q) × (target_of t.edges i < t.n)
-  unfolding edge_wrong
-  within e =
-      let a : Bool = leb t.n (source_of t.edges i) in
-      let b : Bool = leb t.q (role_of t.edges i) in
-      let c : Bool = leb t.n (target_of t.edges i) in
-      let f = none_r a (b || c) e in
-      (leb-false _ _ (none_l a (b || c) e), leb-false _ _ (none_l b c f), leb-false _ _ (none_r b c f))
-
-  not_outside : source_of t.edges i < t.n → role_of t.edges i < t.q → target_of t.edges i < t.n → edge_wrong t.n t.q t.edges i ≡ false
-  unfolding edge_wrong
-  not_outside s r g = rw (lt-leb _ _ s, lt-leb _ _ r, lt-leb _ _ g)
-
-  in_order : order_wrong t.edges (i + 1) ≡ false → edge_before t.edges i (i + 1) ≡ true
-  unfolding order_wrong
-  in_order e = not-false _ (subst (λ (k : ℕ). not (edge_before t.edges k (i + 1)) ≡ false) (add-sub_cancel i 1) (rest (and_cases (ltb 0 (i + 1)) (not (edge_before t.edges (i + 1 - 1) (i + 1))) e)))
-    where
-      rest : (ltb 0 (i + 1) ≡ false) ⊎ (not (edge_before t.edges (i + 1 - 1) (i + 1)) ≡ false) → not (edge_before t.edges (i + 1 - 1) (i + 1)) ≡ false
-      rest (inl f) = absurd (true≢false (sym (lt-ltb 0 (i + 1) (omega arith)) ∙ f))
-      rest (inr f) = f
+within_limits n m p q e = (grind (arith, nat_tests), grind (arith, nat_tests), grind (arith, nat_tests), grind (arith, nat_tests))
 
 order_kept : (t : Lent) → Allowed t → (i : ℕ) → i < t.m → order_wrong t.edges i ≡ false
 unfolding order_wrong
@@ -81,7 +46,7 @@ order_kept t A (suc i) l = rw (lt-ltb 0 (suc i) (omega arith), sym (add-one i), 
 -- ---- nothing is refused exactly if the buffers are long enough and the table is allowed
 
 pub contents_allowed : (t : Lent) → over_limit t.n t.m t.p t.q ≡ false → contents_of t ≡ Ok tt → Allowed t
-unfolding contents_of label_wrong
+unfolding contents_of label_wrong edge_wrong order_wrong
 contents_allowed t o e =
     let f = then_done (refuse_first t.n (label_wrong t.p t.labels) LabelOutOfRange) _ e in
     let g = then_done (refuse_first t.m (edge_wrong t.n t.q t.edges) EdgeOutOfRange) _ f.1 in
@@ -94,10 +59,10 @@ contents_allowed t o e =
       most_p = w.2;
       most_q = w.3;
       labels = refuse_first_done t.n (label_wrong t.p t.labels) LabelOutOfRange f.0;
-      sources = λ i l. (within t i (inside i l)).0;
-      roles = λ i l. (within t i (inside i l)).1;
-      targets = λ i l. (within t i (inside i l)).2;
-      ascending = λ i l. in_order t i (order (i + 1) l);
+      sources = λ i l. grind (arith, nat_tests, inside i l);
+      roles = λ i l. grind (arith, nat_tests, inside i l);
+      targets = λ i l. grind (arith, nat_tests, inside i l);
+      ascending = λ i l. not-false _ (rw (lt-ltb 0 (i + 1) (omega arith), add-sub_cancel i 1) at (order (i + 1) l));
     }
 
 pub checked : (t : Lent) → check_of t ≡ Ok tt → Long t × Allowed t
@@ -105,18 +70,16 @@ unfolding check_of
 checked t e =
     let c = then_done (refuse (too_short t) ShortBuffer) _ e in
     let d = then_done (refuse (over_limit t.n t.m t.p t.q) OverLimit) _ c.1 in
-    let s = refuse_done (too_short t) ShortBuffer c.0 in
-    let x : Bool = ltb (length t.labels) labels_length in
-    let y : Bool = ltb (length t.edges) edges_length in (
-      record { labels = ltb-false _ _ (none_l x y s); edges = ltb-false _ _ (none_r x y s) },
+    let s = refuse_done (too_short t) ShortBuffer c.0 in (
+      record { labels = grind (arith, nat_tests); edges = grind (arith, nat_tests) },
       contents_allowed t (refuse_done _ OverLimit d.0) d.1,
     )
 
 pub contents_right : (t : Lent) → Allowed t → contents_of t ≡ Ok tt
-unfolding contents_of label_wrong
+unfolding contents_of label_wrong edge_wrong
 contents_right t A = rw (
   first_passed t.n (label_wrong t.p t.labels) A.labels,
-  first_passed t.m (edge_wrong t.n t.q t.edges) (λ i l. not_outside t i (A.sources i l) (A.roles i l) (A.targets i l)),
+  first_passed t.m (edge_wrong t.n t.q t.edges) (λ i l. rw (lt-leb _ _ (A.sources i l), lt-leb _ _ (A.roles i l), lt-leb _ _ (A.targets i l))),
   first_passed t.m (order_wrong t.edges) (order_kept t A),
 )
 
@@ -125,7 +88,10 @@ unfolding check_of
 check_right t L A = rw (
   le-ltb _ _ L.labels,
   le-ltb _ _ L.edges,
-  limits_kept t.n t.m t.p t.q A.most_n A.most_m A.most_p A.most_q,
+  le-ltb _ _ A.most_n,
+  le-ltb _ _ A.most_m,
+  le-ltb _ _ A.most_p,
+  le-ltb _ _ A.most_q,
 ) (contents_right t A)
 
 pub checked_exactly : (t : Lent) → (check_of t ≡ Ok tt) ↔ (Long t × Allowed t)

@@ -82,10 +82,10 @@ after (Err r) old new = old
 
 pub then_done : (a b : Outcome) → (a then b) ≡ Ok tt → (a ≡ Ok tt) × (b ≡ Ok tt)
 then_done (Ok done) b e = (refl, e)
-then_done (Err r) b e = absurd (let z : ◌≡◌ {A = ℕ} 0 1 = cc in omega arith)
+then_done (Err r) b e = cc
 
 pub refuse_done : (t : Bool) (r : Refusal) → refuse t r ≡ Ok tt → t ≡ false
-refuse_done true r e = absurd (let z : ◌≡◌ {A = ℕ} 0 1 = cc in omega arith)
+refuse_done true r e = cc
 refuse_done false r e = refl
 
 pub refuse_first_done : (n : ℕ) (bad : ℕ → Bool) (r : ℕ → Refusal) → refuse_first n bad r ≡ Ok tt → (i : ℕ) → i < n → bad i ≡ false

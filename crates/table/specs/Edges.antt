@@ -1,11 +1,12 @@
 -- The edges of one class stand together, and an index of first edges says where. The relation layer and the class-making layer walk them by it.
-use Rattle.std.specs.Prelude.{ℕ, zero, suc, ◌+◌, ◌*◌, ◌≤◌, ◌<◌, ◌≡◌, Bool, true, ◌&&◌, ◌||◌, ◌⊎◌, List, ◌++◌, length, get_or, drop, eqb, ltb, leb}
-use Rattle.std.proofs.Common.{◌∙◌, inl, inr, arith, le_refl, add-one, length-append, ltb-true, eqb-true, leb-true, leb-false}
+use Rattle.std.specs.Prelude.{ℕ, ◌+◌, ◌*◌, ◌≤◌, ◌<◌, ◌≡◌, Bool, List, ◌++◌, length, get_or, drop, leb}
+use Rattle.std.proofs.Common.{◌∙◌, arith, le_refl, add-one, length-append, leb-true, leb-false}
 use Rattle.std.proofs.Math.ListN.{get_or-append}
-use Rattle.ground.specs.Tests.{first, first_le, first_below, first_passes, lt_cases, or_cases, and_l}
+use Rattle.std.proofs.Math.Decide.{le_ind}
+use Rattle.std.proofs.lemmas.Bool.Decides.{nat_tests}
+use Rattle.ground.specs.Tests.{first, first_le, first_below, first_passes}
 use Rattle.ground.specs.Lists.{tabulate, length_tabulate, get_or_tabulate}
-use Rattle.table.specs.Lent.{Lent, source_of, role_of, target_of}
-use Rattle.table.specs.Check.{edge_before}
+use Rattle.table.specs.Lent.{Lent, source_of, target_of}
 use Rattle.table.specs.Allowed.{Allowed, Long}
 
 -- the first of m edges whose source is class c or a later one
@@ -29,24 +30,9 @@ pub record Indexed (t : Lent) (fs : List ℕ) : Type 0 where
 
 -- ---- the index of an allowed table
 
-source_rises : (es : List ℕ) (i j : ℕ) → edge_before es i j ≡ true → source_of es i ≤ source_of es j
-source_rises es i j e =
-    let s : Bool = ltb (source_of es i) (source_of es j) in
-    let q : Bool = eqb (source_of es i) (source_of es j) in
-    let rest : Bool = ltb (role_of es i) (role_of es j) || (eqb (role_of es i) (role_of es j) && ltb (target_of es i) (target_of es j)) in
-    elim (or_cases s (q && rest) e) [
-      | inl x ↦ omega (arith, ltb-true (source_of es i) (source_of es j) x)
-      | inr x ↦ omega (arith, eqb-true (source_of es i) (source_of es j) (and_l q rest x))
-    ]
-
 rises : (t : Lent) → Allowed t → (i j : ℕ) → i ≤ j → j < t.m → source_of t.edges i ≤ source_of t.edges j
-rises t A i zero l h = let e : i ≡ 0 = omega arith in rw e (le_refl _)
-rises t A i (suc j) l h =
-    let next : source_of t.edges j ≤ source_of t.edges (suc j) = source_rises t.edges j (suc j) (rw (add-one j) at (A.ascending j (omega arith))) in
-    elim (cases l) [ inl e ↦ rw e (le_refl _) | inr k ↦ omega (arith, rises t A i j k (omega arith)) ]
-  where
-    cases : i ≤ suc j → (i ≡ suc j) ⊎ (i ≤ j)
-    cases l = elim (lt_cases (let k : i < suc (suc j) = omega arith in k)) [ inl e ↦ inl e | inr k ↦ inr (omega arith) ]
+rises t A i j l h = le_ind (λ (k : ℕ). k < t.m → source_of t.edges i ≤ source_of t.edges k) (λ _. le_refl _)
+    (λ k _ ih m. let e = rw (add-one k) at (A.ascending k (omega arith)) in let r = ih (omega arith) in grind (arith, nat_tests)) j l h
 
 pub indexed : (t : Lent) → Long t → Allowed t → (old : List ℕ) → t.n < length old → Indexed t (index_of t.edges t.m t.n ++ drop (t.n + 1) old)
 indexed t L A old h = record {

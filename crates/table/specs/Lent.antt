@@ -2,9 +2,10 @@
 -- The same lists as a description graph with the start rule of labels: this is the one place where labels are read.
 use Rattle.std.specs.Prelude.{ℕ, ◌+◌, ◌*◌, ◌<◌, ◌≡◌, true, ◌&&◌, List, length, get_or, ltb}
 use Rattle.std.specs.List.{concat}
-use Rattle.std.proofs.Math.Bool.{Bool}
-use Rattle.std.proofs.lemmas.Bool.{ltb-true, lt-ltb}
-use Rattle.ground.specs.Tests.{and_in, and_l, and_r}
+use Rattle.std.proofs.Common.{arith}
+use Rattle.std.proofs.lemmas.Bool.{lt-ltb}
+use Rattle.std.proofs.lemmas.Bool.Decides.{nat_tests}
+use Rattle.ground.specs.Tests.{and_in}
 use Rattle.ground.specs.Relations.{Rel, Inside}
 use Rattle.ground.specs.Bits.{among, among_refl, among_trans}
 use Rattle.theory.specs.Graph.{Graph, Under}
@@ -60,13 +61,11 @@ module _ (t : Lent) where
 
   pub fits_inside : Inside t.n t.n (fits t)
   unfolding fits
-  fits_inside b a e =
-      let s : Bool = among (labels_of t.labels b) (labels_of t.labels a) in
-      (ltb-true b t.n (and_l (ltb b t.n) (ltb a t.n && s) e), ltb-true a t.n (and_l (ltb a t.n) s (and_r (ltb b t.n) (ltb a t.n && s) e)))
+  fits_inside b a e = (grind (arith, nat_tests), grind (arith, nat_tests))
 
   pub fits_out : (b a : ℕ) → fits t b a ≡ true → among (labels_of t.labels b) (labels_of t.labels a) ≡ true
   unfolding fits
-  fits_out b a e = let s : Bool = among (labels_of t.labels b) (labels_of t.labels a) in and_r (ltb a t.n) s (and_r (ltb b t.n) (ltb a t.n && s) e)
+  fits_out b a e = grind arith
 
   pub fits_refl : (b : ℕ) → b < t.n → fits t b b ≡ true
   fits_refl b h = fits_in b b h h (among_refl (labels_of t.labels b))

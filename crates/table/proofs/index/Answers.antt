@@ -1,21 +1,16 @@
 -- One entry more; no edge before it has so high a source.
-use Rattle.std.proofs.Common.{ℕ, ◌<◌, ◌≡◌, arith, sym, ◌∙◌}
+use Rattle.std.proofs.Common.{ℕ, ◌≡◌, arith, sym, ◌∙◌}
 use Rattle.std.specs.Prelude.{leb}
 use Rattle.std.proofs.lemmas.Bool.{leb-false}
 use Rattle.ground.specs.Tests.{first_le, first_below}
 use Rattle.ground.specs.Lists.{tabulate_start, tabulate_more}
 use Rattle.table.specs.Lent.{source_of}
 use Rattle.table.specs.Edges.{first_edge}
-use Rattle.table.proofs.Cut.{source_cut, start_cut}
+use Rattle.table.proofs.Cut.{start_cut}
 use Rattle.table.proofs.index.Goals as goal
 
 pub loop-c-init : goal.loop-c-init
 loop-c-init c = record { inside = omega arith; below = λ e l. absurd (omega arith); filled = tabulate_start _ _ }
-
-pub edge_from-from-requires : goal.edge_from-from-requires
-edge_from-from-requires c e l =
-    let inside : e < c.args.m = omega arith in
-    rw (source_cut _ c.args.m c.args.edges.now c.edges_of-edges.ensures.count c.edges_of-edges.ensures.same e inside) (c.loop-c.invariant.below e l)
 
 pub overflow_cast-first : goal.overflow_cast-first
 overflow_cast-first c = omega (
