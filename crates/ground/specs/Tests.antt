@@ -6,7 +6,7 @@ use Rattle.std.proofs.Common.{ap, ap₂, inl, inr, arith, not-suc-le-zero, eq-or
 use Rattle.std.proofs.lemmas.Bool.Decides.{same_from_decides, nat_tests}
 use Rattle.std.proofs.lemmas.Bool.{false≢true, and_parts, or_parts, or_left, or_right, cases_Bool, cases_eq, false_from_ne_true}
 
--- ---- tests as facts
+-- ---- tests as facts; five of these are the library's, under the names by which the files above cite them
 
 pub ff {ℓ} : {X : Type ℓ} → false ≡ true → X
 ff e = absurd (false≢true e)
@@ -182,6 +182,3 @@ found_none n p none = rw (first_passed n p none)
 -- as a number again, n where there is none
 pub found_or : (n : ℕ) (p : ℕ → Bool) → unwrap_or (found n p) n ≡ first n p
 found_or n p = let k = first_le n p in grind (arith, nat_tests)
-
-pub found_ext : (n : ℕ) (p q : ℕ → Bool) → ((i : ℕ) → i < n → p i ≡ q i) → found n p ≡ found n q
-found_ext n p q e = rw (first_ext n p q e)

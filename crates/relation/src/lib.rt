@@ -1,10 +1,11 @@
-// The relation layer: starting relation, single round, whole run and question, over a table in memory.
+// A relation in words: a pair's bit, read and set.
 #![tactic(auto)]
 
 ghost use Rattle.std.specs.Prelude.{◌≡◌, ℕ, ◌+◌, ◌*◌, ◌-◌, ◌/◌, ◌%◌, ◌^◌, ◌≤◌, ◌<◌, length, get_or, set};
 ghost use Rattle.relation.specs.Words.{bit_of, with_pair};
 
-// Whether the pair of row b and column a is in a relation. Both functions take any relation that C may lend, so it is no type of its own.
+// Whether the pair of row b and column a is in a relation. Both clauses, which may not change, take any slice of 1,024 words or more, lent or a caller's
+// own, so a relation is no type of its own.
 #[tactic(auto, using(crate::specs::Words::bit_read))]
 pub fn holds(rel: &[u64], b: usize, a: usize) -> bool
     requires { (1024 ≤ length rel.now) × (b < 256) × (a < 256) }

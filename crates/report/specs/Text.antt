@@ -9,9 +9,12 @@ use Rattle.std.specs.Fmt.{WritesInCalls}
 use Rattle.std.specs.List.{FoldsTo, concat}
 use Rattle.ground.specs.Lists.{over, over_none, over_more, length_over}
 
+pub length_number : (v : ℕ) → v < 100000 → length (decimal v) ≤ 5
+length_number v h = length-decimal-le 5 v (omega arith) h (omega arith)
+
 -- a text of at most eight bytes and a number
 pub length_count : (ws : List ℕ) (v : ℕ) → length ws ≤ 8 → v < 100000 → length (ws ++ decimal v) ≤ 13
-length_count ws v h l = omega (arith, length-append ws (decimal v), length-decimal-le 5 v (omega arith) (omega arith) (omega arith))
+length_count ws v h l = omega (arith, length-append ws (decimal v), length_number v l)
 
 -- ---- the bytes xs were written from byte `at` on, and the next is byte e
 pub record Wrote (at : ℕ) (xs old new : List ℕ) (e : ℕ) : Type 0 where

@@ -52,7 +52,7 @@ impl Lines<'_> {
         Ok(Lines { n: t.n, relation })
     }
 
-    // A space and the number of each class under class b.
+    // A space and the number of each class under class b. As a byte, b names no row past the relation's words.
     #[tactic(auto, using(crate::specs::Listing::names_zero, crate::specs::Listing::names_yes, crate::specs::Listing::names_no))]
     fn write_names<W: fmt::Write>(&self, f: &mut fmt::Formatter<W>, b: u8) -> fmt::Result
         ensures { DisplaysOnOk W.write_str_gives f.old result (Some (names_of self.now.n (bit_of self.now.relation.now b))) f.new }
@@ -100,7 +100,7 @@ impl fmt::Display for Refused {
     }
 }
 
-// A lent buffer that is written into, one text after another.
+// A lent buffer that is written into, one text after another. The library's writers into a slice don't say what text they took.
 #[derive(Drop)]
 struct Page<'a> {
     out: &'a mut [u8],
@@ -127,8 +127,8 @@ impl fmt::Write for Page<'_> {
     }
 }
 
-// Writes a value's text into a lent buffer, from its front; answers how long it is. Where there is no room it is an error, and what was written
-// before stays.
+// Writes a value's text into a lent buffer, from its front; answers how long it is. Where there is no room it is an error, and then only the buffer's
+// length is promised.
 pub fn write_into<D: fmt::Display + Drop>(out: &mut [u8], value: D) -> Result<usize, fmt::Error>
     ensures ok { IfOk result (λ len. IfSome (D.output value) (λ text. Wrote 0 text out.old out.new len × (len ≤ length out.old))) }
     ensures len { length out.new ≡ length out.old }

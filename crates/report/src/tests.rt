@@ -1,15 +1,14 @@
 // A listing and a refusal as they are to be printed, in buffers with room and with one byte too few.
 use super::*;
-use table::Refusal;
 
-const CHAIN: Table = Table {
+const CHAINS: Table = Table {
     n: 6,
     m: 4,
     p: 1,
     q: 1,
 };
 
-// Each class of the chain and each class under it.
+// Two chains of three, 0 to 2 and 3 to 5, the first with a label at its end: each class and each class under it.
 const PAIRS: [(usize, usize); 15] = [
     (0, 0),
     (1, 1),
@@ -29,7 +28,7 @@ const PAIRS: [(usize, usize); 15] = [
 ];
 
 #[test]
-fn a_chain(rt: HostRuntime) {
+fn two_chains(rt: HostRuntime) {
     let mut relation = [0; Table::WORDS];
     for (b, a) in PAIRS {
         if b < Table::CLASSES && a < Table::CLASSES {
@@ -37,10 +36,10 @@ fn a_chain(rt: HostRuntime) {
         }
     }
     let header = Header {
-        table: CHAIN,
+        table: CHAINS,
         rounds: 2,
     };
-    let lines = Lines::new(CHAIN, &relation).expect(&rt, "a relation of six classes");
+    let lines = Lines::new(CHAINS, &relation).expect(&rt, "a relation of six classes");
     let mut out = [b'#'; 100];
     let first = write_into(&mut out, header).expect(&rt, "room for a header");
     assert_eq!(rt; &out[..first], "classes 6 edges 4 rounds 2\n".as_bytes());
@@ -64,14 +63,14 @@ fn a_refusal(rt: HostRuntime) {
 #[test]
 fn what_has_no_lines(rt: HostRuntime) {
     let words = [0; Table::WORDS];
-    let large = Table { n: 257, ..CHAIN };
+    let large = Table { n: 257, ..CHAINS };
     assert_eq!(rt; Lines::new(large, &words).err(), Some(Refusal::OverLimit));
     assert_eq!(rt;
         Lines::new(large, &words[1..]).err(),
         Some(Refusal::ShortBuffer)
     );
     assert_eq!(rt;
-        Lines::new(CHAIN, &words[1..]).err(),
+        Lines::new(CHAINS, &words[1..]).err(),
         Some(Refusal::ShortBuffer)
     );
 }

@@ -86,7 +86,7 @@ pub enum Refusal {
 }
 
 impl Refusal {
-    // The refusal's number, in whose place C has no enum.
+    // The refusal's number, which C is answered by in place of the enum.
     pub fn number(self) -> usize
         ensures { result ≡ number_of self }
     {
@@ -156,7 +156,7 @@ impl From<[u16; 3]> for Edge {
 }
 
 impl Edge {
-    // Whether it stands before another.
+    // Whether it stands before another: the derived order, with the clause that says that it is the order asked for.
     fn is_before(self, other: Edge) -> bool
         ensures { result ≡ before self.source self.role self.target other.source other.role other.target }
     {
@@ -195,7 +195,7 @@ fn bad_edge(edges: &[[u16; 3]], n: usize, q: usize) -> Option<usize>
         .position(|&edge| Edge::from(edge).is_outside(n, q))
 }
 
-// The lowest edge that does not stand after the edge before it.
+// The lowest edge that does not stand after the edge before it. `windows` would give its place less one.
 fn bad_order(edges: &[[u16; 3]]) -> Option<usize>
     ensures { result ≡ found (length edges.now) (order_wrong (concat edges.now)) }
 {
@@ -219,7 +219,7 @@ fn contents(labels: &[u64], edges: &[[u16; 3]], p: usize, q: usize) -> Result<()
     Ok(())
 }
 
-// The first m edges of a table's numbers.
+// The first m edges of a table's numbers: here the count that is lent beside a buffer goes into a slice.
 fn edges_of(numbers: &[u16], m: usize) -> &[[u16; 3]]
     requires { 3 * m ≤ length numbers.now }
     ensures count { length result.now ≡ m }
@@ -262,8 +262,8 @@ pub fn known(t: Table, a: usize, b: usize) -> Result<(), Refusal>
     Ok(())
 }
 
-// The first edge whose source is class c or a later one, or how many there are; no edge before `from` has such a source. `index` promises this of edges in
-// any order too, so no search by halves serves.
+// The first edge whose source is class c or a later one, or how many there are, which is what the index holds then; no edge before `from` has such a source.
+// `index` promises this of edges in any order too, so no search by halves serves.
 fn edge_from(edges: &[[u16; 3]], from: usize, c: usize) -> usize
     requires { (e : ℕ) → e < from → source_of (concat edges.now) e < c }
     ensures { result ≡ first_edge (concat edges.now) (length edges.now) c }
@@ -273,15 +273,16 @@ fn edge_from(edges: &[[u16; 3]], from: usize, c: usize) -> usize
         .unwrap_or(edges.len())
 }
 
-// For each class, and for n, the first of m edges whose source is that class or a later one. The clause speaks of buffers longer than m and n say, so these stand beside.
+// For each class, and for n, the first of m edges whose source is that class or a later one. The counts stand beside the buffers, since the promise, which
+// may not change, speaks of longer ones.
 pub fn index(edges: &[u16], m: usize, n: usize, first: &mut [u16])
     requires { (3 * m ≤ length edges.now) × (m ≤ 1024) × (n < length first.old) }
     ensures { first.new ≡ index_of edges.now m n ++ drop (n + 1) first.old }
 {
     let edges = edges_of(edges, m);
     let mut from = 0;
-    for c in 0..=n {
+    for (c, entry) in first[..=n].iter_mut().enumerate() {
         from = edge_from(edges, from, c);
-        first[c] = from as u16;
+        *entry = from as u16;
     }
 }

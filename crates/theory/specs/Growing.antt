@@ -125,7 +125,7 @@ module _ {T : Type 0} (F : Family T) where
       J : Joint (F.graph w) (F.fits w) c a b
       J = joint_later (F.graph u) (F.graph w) (F.appended u w x) (F.fits u) (F.fits w) c a b s.made s.nodes.0 s.nodes.1 s.nodes.2 (s.start w x)
 
-  -- ---- demand 3, last sentence
+  -- ---- order and grouping make no difference
   abbrev pub Step : Kind → T → ℕ → ℕ → ℕ → T → Type 1
   Step common t a b c u = CommonStep t a b c u
   Step joint t a b c u = JointStep t a b c u

@@ -9,5 +9,5 @@ abbrev pub invariant-loop-c : goal.invariant-loop-c
 invariant-loop-c l = record {
   inside : l.from ≤ l.m;
   below : (e : ℕ) → e < l.from → source_of l.fn.edges e < l.c;
-  filled : l.first ≡ tabulate l.c (first_edge l.fn.edges l.m) ++ drop l.c l.initial.first;
+  filled : l.entry-items ≡ tabulate l.c (first_edge l.fn.edges l.m) ++ drop l.c l.initial.entry-items;
 }
