@@ -5,9 +5,9 @@ use Rattle.std.specs.Int.Bits.{bit_and, bit_or, or_shifted_r}
 use Rattle.std.proofs.lemmas.Nat.{and_le_l}
 use Rattle.std.proofs.Math.Pow.{high}
 use Rattle.std.proofs.lemmas.Nat.Bits.{bit_at-suc, bit_at-zero, bit_at_and, bit_at_or, bit_at-pow_same, bit_at-pow_other, bit_at-lt, bit_at_cat_low, same_from_bits_below}
-use Rattle.std.proofs.lemmas.Bool.{cases_eq}
+use Rattle.std.proofs.lemmas.Bool.{cases_eq, or_left, or_right, or_cases, cases_Bool}
 use Rattle.std.proofs.lemmas.Bool.Decides.{nat_tests}
-use Rattle.ground.specs.Tests.{and_in, and_l, and_r, or_l, or_r, or_cases, bool_cases, same_test, lt_cases}
+use Rattle.ground.specs.Tests.{and_in, and_l, and_r, same_test, lt_cases}
 use Rattle.ground.specs.Counts.{one}
 
 -- bit k of the word x is set
@@ -76,10 +76,10 @@ pub among_and : (z x y : ℕ) → among z x ≡ true → among z y ≡ true → 
 among_and z x y e f = among_in z (bit_and x y) (λ i d. has_and x y i ∙ and_in (among_out z x e i d) (among_out z y f i d))
 
 pub among_or_l : (x y : ℕ) → among x (bit_or x y) ≡ true
-among_or_l x y = among_in x (bit_or x y) (λ i d. has_or x y i ∙ or_l (has x i) (has y i) d)
+among_or_l x y = among_in x (bit_or x y) (λ i d. has_or x y i ∙ or_left (has x i) (has y i) d)
 
 pub among_or_r : (x y : ℕ) → among y (bit_or x y) ≡ true
-among_or_r x y = among_in y (bit_or x y) (λ i d. has_or x y i ∙ or_r (has x i) (has y i) d)
+among_or_r x y = among_in y (bit_or x y) (λ i d. has_or x y i ∙ or_right (has x i) (has y i) d)
 
 pub among_or : (x y z : ℕ) → among x z ≡ true → among y z ≡ true → among (bit_or x y) z ≡ true
 among_or x y z e f = among_in (bit_or x y) z (λ i d. elim (or_cases (has x i) (has y i) (sym (has_or x y i) ∙ d)) [ inl a ↦ among_out x z e i a | inr b ↦ among_out y z f i b ])
@@ -97,7 +97,7 @@ word_of (suc k) p = one (p k) * 2 ^ k + word_of k p
 pub word_lt : (k : ℕ) (p : ℕ → Bool) → word_of k p < 2 ^ k
 unfolding word_of
 word_lt zero p = zero-lt-suc 0
-word_lt (suc k) p = elim (bool_cases (p k)) [ inl e ↦ rw e (omega (arith, word_lt k p)) | inr e ↦ rw e (omega (arith, word_lt k p)) ]
+word_lt (suc k) p = elim (cases_Bool (p k)) [ inl e ↦ rw e (omega (arith, word_lt k p)) | inr e ↦ rw e (omega (arith, word_lt k p)) ]
 
 pub word_zero : (p : ℕ → Bool) → word_of 0 p ≡ 0
 unfolding word_of
@@ -121,7 +121,7 @@ unfolding word_of
 has_word zero p j l = absurd (not-suc-le-zero l)
 has_word (suc k) p j l =
     elim (lt_cases l) [
-      | inl q ↦ rw (q, high (one (p k)) k (word_lt k p)) (elim (bool_cases (p k)) [ inl e ↦ rw e | inr e ↦ rw e ])
+      | inl q ↦ rw (q, high (one (p k)) k (word_lt k p)) (elim (cases_Bool (p k)) [ inl e ↦ rw e | inr e ↦ rw e ])
       | inr h ↦ ap (λ (x : ℕ). eqb x 1) (bit_at_cat_low (one (p k)) k (word_of k p) j h) ∙ has_word k p j h
     ]
 

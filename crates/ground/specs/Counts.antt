@@ -2,7 +2,8 @@
 use Rattle.std.specs.Prelude.{◌≡◌, refl, Bool, true, false, ℕ, zero, suc, ◌+◌, ◌*◌, ◌≤◌, ◌<◌}
 use Rattle.std.proofs.Common.{sym, ap, ap₂, subst, ◌∙◌, inl, inr, arith, not-suc-le-zero, le_refl, add-one}
 use Rattle.std.proofs.Math.Decide.{dec_lt, le_ind}
-use Rattle.ground.specs.Tests.{bool_cases, lt_cases}
+use Rattle.std.proofs.lemmas.Bool.{cases_Bool}
+use Rattle.ground.specs.Tests.{lt_cases}
 
 -- ---- how many numbers below n pass, and the sum of f over the numbers below n
 
@@ -95,7 +96,7 @@ unfolding count
 count_find p zero d h = absurd (not-suc-le-zero h)
 count_find p (suc n) d h = elim (dec_lt d (count n p)) [
   | yes l ↦ let x = count_find p n d l in (x.0, omega (arith, x.1), x.2, x.3)
-  | no l ↦ elim (bool_cases (p n)) [
+  | no l ↦ elim (cases_Bool (p n)) [
     | inl e ↦ (n, le_refl (suc n), e, (let h' : d < count n p + 1 = rw e at h in omega arith))
     | inr e ↦ absurd (let h' : d < count n p + 0 = rw e at h in omega arith)
   ]

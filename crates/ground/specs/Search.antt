@@ -9,9 +9,10 @@ use Rattle.std.specs.Fn.{Called, CalledAt}
 use Rattle.std.specs.Iterator.{YieldsThen}
 use Rattle.std.specs.List.{FoldsTo, position_or_len}
 use Rattle.std.specs.declared.ops.Range.{Range}
+use Rattle.std.proofs.lemmas.Bool.{cases_Bool}
 use denote.Param.Members.{Mut}
 use denote.Ref.{Bor}
-use Rattle.ground.specs.Tests.{bool_cases, first, found, found_some, found_none}
+use Rattle.ground.specs.Tests.{first, found, found_some, found_none}
 
 module _ (a n : ℕ) (p : ℕ → Bool) (early : (k : ℕ) → k < a → p k ≡ false) where
   -- what a call with the number says of its test, where the number is in the range
@@ -37,7 +38,7 @@ module _ (a n : ℕ) (p : ℕ → Bool) (early : (k : ℕ) → k < a → p k ≡
 first_item : {B : Type 0} (test : B → Bool) (d : B) (xs : List B) (p : ℕ → Bool) → ((i : ℕ) → i < length xs → p i ≡ test (get_or xs i d)) → position_or_len test xs ≡ first (length xs) p
 unfolding first
 first_item test d [] p e = refl
-first_item test d (x ∷ xs) p e = let r = first_item test d xs (λ i. p (suc i)) (λ i l. e (suc i) (omega arith)) in elim (bool_cases (test x)) [
+first_item test d (x ∷ xs) p e = let r = first_item test d xs (λ i. p (suc i)) (λ i l. e (suc i) (omega arith)) in elim (cases_Bool (test x)) [
   | inl t ↦ rw (e 0 (omega arith), t)
   | inr t ↦ rw (e 0 (omega arith), t) (omega arith)
 ]

@@ -6,7 +6,7 @@ use Rattle.std.proofs.Common.{ap, ap₂, inl, inr, arith, not-suc-le-zero, eq-or
 use Rattle.std.proofs.lemmas.Bool.Decides.{same_from_decides, nat_tests}
 use Rattle.std.proofs.lemmas.Bool.{false≢true, and_parts, or_parts, or_left, or_right, cases_Bool, cases_eq, false_from_ne_true}
 
--- ---- tests as facts; five of these are the library's, under the names by which the files above cite them
+-- ---- tests as facts
 
 pub ff {ℓ} : {X : Type ℓ} → false ≡ true → X
 ff e = absurd (false≢true e)
@@ -19,21 +19,6 @@ and_l a b e = (and_parts a b e).0
 
 pub and_r : (a b : Bool) → (a && b) ≡ true → b ≡ true
 and_r a b e = (and_parts a b e).1
-
-pub and_cases : (a b : Bool) → (a && b) ≡ false → (a ≡ false) ⊎ (b ≡ false)
-and_cases = Rattle.std.proofs.lemmas.Bool.and_cases
-
-pub or_cases : (a b : Bool) → (a || b) ≡ true → (a ≡ true) ⊎ (b ≡ true)
-or_cases = Rattle.std.proofs.lemmas.Bool.or_cases
-
-pub bool_cases : (t : Bool) → (t ≡ true) ⊎ (t ≡ false)
-bool_cases = cases_Bool
-
-pub or_l : (a b : Bool) → a ≡ true → (a || b) ≡ true
-or_l = or_left
-
-pub or_r : (a b : Bool) → b ≡ true → (a || b) ≡ true
-or_r = or_right
 
 pub none_l : (a b : Bool) → (a || b) ≡ false → a ≡ false
 none_l a b e = (or_parts a b e).0
@@ -80,7 +65,7 @@ all_out (suc n) p e i l = elim (lt_cases l) [ inl q ↦ rw q (and_r (all n p) (p
 pub any_in : (n : ℕ) (p : ℕ → Bool) (i : ℕ) → i < n → p i ≡ true → any n p ≡ true
 unfolding any
 any_in zero p i l e = absurd (not-suc-le-zero l)
-any_in (suc n) p i l e = elim (lt_cases l) [ inl q ↦ or_r (any n p) (p n) (rw q at e) | inr k ↦ or_l (any n p) (p n) (any_in n p i k e) ]
+any_in (suc n) p i l e = elim (lt_cases l) [ inl q ↦ or_right (any n p) (p n) (rw q at e) | inr k ↦ or_left (any n p) (p n) (any_in n p i k e) ]
 
 pub none_out : (n : ℕ) (p : ℕ → Bool) → any n p ≡ false → (i : ℕ) → i < n → p i ≡ false
 none_out n p e i l = false_from_ne_true (p i) (λ t. let h = any_in n p i l t in cc)
@@ -100,7 +85,7 @@ pub record Lowest (n : ℕ) (p : ℕ → Bool) : Type 0 where
 pub any_out : (n : ℕ) (p : ℕ → Bool) → any n p ≡ true → Lowest n p
 unfolding any
 any_out zero p e = ff e
-any_out (suc n) p e = elim (bool_cases (any n p)) [
+any_out (suc n) p e = elim (cases_Bool (any n p)) [
   | inl t ↦ let r = any_out n p t in record { at = r.at; below = omega arith; passes = r.passes; earlier = r.earlier }
   | inr f ↦ record { at = n; below = le_refl (suc n); passes = rw f at e; earlier = none_out n p f }
 ]
@@ -125,7 +110,7 @@ first_below (suc n) p (suc i) h = first_below n (λ k. p (suc k)) i (grind arith
 pub first_passes : (n : ℕ) (p : ℕ → Bool) → first n p < n → p (first n p) ≡ true
 unfolding first
 first_passes zero p h = absurd (omega arith)
-first_passes (suc n) p h = elim (bool_cases (p 0)) [
+first_passes (suc n) p h = elim (cases_Bool (p 0)) [
   | inl e ↦ rw e e
   | inr e ↦ let l : suc (first n (λ i. p (suc i))) < suc n = rw e at h in rw e (first_passes n (λ i. p (suc i)) (omega arith))
 ]

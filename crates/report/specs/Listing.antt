@@ -1,7 +1,6 @@
 -- The listing's lines: a header with the counts and rounds, then for each class B the classes under it, ascending.
 use Rattle.std.specs.Prelude.{ℕ, zero, suc, ◌+◌, ◌*◌, ◌≤◌, ◌<◌, ◌≡◌, refl, Bool, true, false, length, ltb, List, [], ◌++◌, codes, decimal}
 use Rattle.std.proofs.Common.{sym, ap, inl, inr, arith, add-one, length-append}
-use Rattle.ground.specs.Tests.{bool_cases}
 use Rattle.ground.specs.Relations.{Rel}
 use Rattle.ground.specs.Runs.{cat, cat_more, gather, gather_yes, gather_no}
 use Rattle.table.specs.Limits.{class_limit, relation_length}
@@ -9,6 +8,7 @@ use Rattle.table.specs.Answer.{Outcome, number_of, place_of, number_lt, text_of,
 use Rattle.table.specs.declared.Refusal.TheVariants.{ShortBuffer, OverLimit}
 use Rattle.table.specs.declared.Refusal.{Refusal}
 use Rattle.std.proofs.lemmas.Fmt.{length-decimal-le}
+use Rattle.std.proofs.lemmas.Bool.{cases_Bool}
 use Rattle.report.specs.Text.{length_number}
 
 -- `classes 6 edges 4 rounds 2`
@@ -72,7 +72,7 @@ length_class a h = length-decimal-le 3 a (omega arith) (omega arith) (omega arit
 
 pub length_names : (k : ℕ) (p : ℕ → Bool) → k ≤ 256 → length (names_of k p) ≤ 4 * k
 length_names zero p h = rw (sym (names_zero p)) (omega arith)
-length_names (suc k) p h = elim (bool_cases (p k)) [
+length_names (suc k) p h = elim (cases_Bool (p k)) [
   | inl e ↦ omega (arith, ap length (names_yes k p e), length-append (names_of k p) (codes " " ++ decimal k), length_names k p (omega arith), length_class k (omega arith), ap (λ (j : ℕ). length (names_of j p)) (add-one k))
   | inr e ↦ omega (arith, ap length (names_no k p e), length_names k p (omega arith), ap (λ (j : ℕ). length (names_of j p)) (add-one k))
 ]

@@ -1,7 +1,8 @@
 -- No place is large: it is a block, a class, an edge, or 0 or 1. So a place always fits the 16 bits that an exported answer gives it.
 use Rattle.std.specs.Prelude.{ℕ, ◌≤◌, ◌<◌, ◌≡◌, refl, Bool, true, false, leb, ltb, Ok, Err}
 use Rattle.std.proofs.Common.{sym, ap, subst, ◌∙◌, inl, inr, arith, ltb-true}
-use Rattle.ground.specs.Tests.{first, bool_cases}
+use Rattle.std.proofs.lemmas.Bool.{cases_Bool}
+use Rattle.ground.specs.Tests.{first}
 use Rattle.table.specs.Limits.{class_limit, edge_limit}
 use Rattle.table.specs.Answer.{Outcome, place_of, refuse, refuse_first, ◌then◌, refuse_done}
 use Rattle.table.specs.Lent.{Lent}
@@ -29,7 +30,7 @@ refuse_places k true x h = refused_places k x h
 refuse_places k false x h = done_places k
 
 pub first_places : (k n : ℕ) (bad : ℕ → Bool) (c : ℕ → Refusal) → n ≤ k → ((i : ℕ) → place_of (c i) ≡ i) → Places k (refuse_first n bad c)
-first_places k n bad c h e r = elim (bool_cases (ltb (first n bad) n)) [
+first_places k n bad c h e r = elim (cases_Bool (ltb (first n bad) n)) [
   | inl t ↦ λ q. refuse_places k (ltb (first n bad) n) (c (first n bad)) (let l = ltb-true (first n bad) n t in omega (arith, e (first n bad))) r q
   | inr t ↦ λ q. done_places k r (sym (ap (λ (b : Bool). refuse b (c (first n bad))) t) ∙ q)
 ]

@@ -4,8 +4,8 @@ use Rattle.std.specs.Prelude.{◌≡◌, Bool, true, false, not}
 use Rattle.std.proofs.Math.Path.{sym}
 use Rattle.std.proofs.Common.{◌∙◌, inl, inr, ℕ, zero, suc, ◌+◌, ◌*◌, ◌-◌, ◌≤◌, ◌<◌, arith}
 use Rattle.std.proofs.Math.Bool.{true≢false}
-use Rattle.std.proofs.lemmas.Bool.{not-true, not-false}
-use Rattle.ground.specs.Tests.{any, any_out, bool_cases, none_out, same_test}
+use Rattle.std.proofs.lemmas.Bool.{not-true, not-false, cases_Bool}
+use Rattle.ground.specs.Tests.{any, any_out, none_out, same_test}
 use Rattle.ground.specs.Relations.{Holds, Inside, Rel, falls, falls_none, falls_some, pairs, pairs_le, pairs_strict}
 
 unfoldable pub grown : (Rel → Rel) → Rel → ℕ → Rel
@@ -53,7 +53,7 @@ module _ (F : Rel → Rel) (s : Rel) (n m : ℕ) (adds : (r : Rel) (b a : ℕ) �
   )
 
   pub growth_exists : (k : ℕ) × Growth F s k × (k ≤ n * m - pairs n m s)
-  growth_exists = elim (bool_cases (any (suc (n * m - pairs n m s)) (λ k. not (grows k)))) [
+  growth_exists = elim (cases_Bool (any (suc (n * m - pairs n m s)) (λ k. not (grows k)))) [
     | inl e ↦ let l = any_out (suc (n * m - pairs n m s)) (λ k. not (grows k)) e in
         let h : l.at < suc (n * m - pairs n m s) = l.below in
         (l.at, record { settled = settled_of l.at (not-true _ l.passes); least = λ j h. unsettled_of j (not-false _ (l.earlier j h)) }, omega arith)

@@ -1,7 +1,8 @@
 -- The pairs reachable from (p, q): the definition, and a relation of tests that is exactly it.
 use Rattle.std.specs.Prelude.{◌≡◌, refl, Bool, true, ◌&&◌, ◌||◌, ◌⊎◌, ℕ, zero, suc, ◌<◌, eqb}
 use Rattle.std.proofs.Common.{sym, subst, ◌∙◌, inl, inr, arith, eqb-true, eq-eqb}
-use Rattle.ground.specs.Tests.{and_in, and_l, and_r, any, any_in, any_out, or_cases, or_l, or_r}
+use Rattle.std.proofs.lemmas.Bool.{or_cases, or_left, or_right}
+use Rattle.ground.specs.Tests.{and_in, and_l, and_r, any, any_in, any_out}
 use Rattle.ground.specs.Relations.{Holds, Inside, Rel}
 use Rattle.theory.specs.Graph.{Graph, Edge, Closed}
 use Rattle.theory.specs.Growth.{grown, Settled, growth_exists, grown_least, grown_inside}
@@ -55,7 +56,7 @@ further_in : (G : Graph) (r : Rel) (u v : ℕ) → Led G r u v → further G r u
 unfolding further leads
 further_in G r u v l =
     let at_pair : r (G.src l.left_edge.at) (G.src l.right_edge.at) ≡ true = rw (l.left_edge.from, l.right_edge.from) l.pair in
-    or_r (r u v) (any G.edges (λ i. any G.edges (leads G r u v i))) (any_in G.edges (λ i. any G.edges (leads G r u v i)) l.left_edge.at l.left_edge.below (any_in _ (leads G r u v l.left_edge.at) l.right_edge.at l.right_edge.below
+    or_right (r u v) (any G.edges (λ i. any G.edges (leads G r u v i))) (any_in G.edges (λ i. any G.edges (leads G r u v i)) l.left_edge.at l.left_edge.below (any_in _ (leads G r u v l.left_edge.at) l.right_edge.at l.right_edge.below
     (and_in at_pair (and_in (eq-eqb _ _ (l.left_edge.role ∙ sym l.right_edge.role)) (and_in (eq-eqb _ _ l.left_edge.to) (eq-eqb _ _ l.right_edge.to))))))
 
 -- the reachable pairs as a relation of tests: it exists, and is unique pair by pair
@@ -66,7 +67,7 @@ pub record Reached (G : Graph) (p q : ℕ) (r : Rel) : Type 0 where
 
 further_adds : (G : Graph) (r : Rel) (b a : ℕ) → Holds r b a → Holds (further G r) b a
 unfolding further
-further_adds G r b a e = or_l _ _ e
+further_adds G r b a e = or_left _ _ e
 
 further_keeps : (G : Graph) → Closed G → (r : Rel) → Inside G.size G.size r → Inside G.size G.size (further G r)
 further_keeps G cl r h u v e = elim (further_out G r u v e) [

@@ -1,8 +1,8 @@
 -- Each round that changes something takes a pair away, so some round is the least that changes nothing, and it is the greatest simulation.
 use Rattle.std.specs.Prelude.{◌≡◌, refl, Bool, true, false, not, ◌⊎◌}
 use Rattle.std.proofs.Common.{sym, subst, ◌∙◌, true≢false, inl, inr, ℕ, zero, suc, ◌+◌, ◌*◌, ◌-◌, ◌≤◌, ◌<◌, arith}
-use Rattle.std.proofs.lemmas.Bool.{not-true, not-false}
-use Rattle.ground.specs.Tests.{any, any_out, bool_cases, none_out, same_test}
+use Rattle.std.proofs.lemmas.Bool.{not-true, not-false, cases_Bool}
+use Rattle.ground.specs.Tests.{any, any_out, none_out, same_test}
 use Rattle.ground.specs.Relations.{Inside, Rel, falls, falls_none, falls_some, pairs, pairs_le, pairs_strict}
 use Rattle.theory.specs.Graph.{Graph, Partner, Backed, Sim, Under, round, Stable, Rounds}
 use Rattle.theory.specs.Simulation.{partner_mono, sim_in_round, round_old, round_start, stable_iff, under_sim}
@@ -35,7 +35,7 @@ module _ (G H : Graph) (fits : Rel) (n m : ℕ) (inside : Inside n m fits) where
 
   -- a bound below which some round is stable: low is any number of pairs that every round keeps
   pub rounds_within : (low : ℕ) → ((k : ℕ) → low ≤ pairs n m (round G H fits k)) → (k : ℕ) × Rounds G H fits k × (k ≤ n * m - low)
-  rounds_within low keep = elim (bool_cases (any (suc (n * m - low)) (λ k. not (changes k)))) [
+  rounds_within low keep = elim (cases_Bool (any (suc (n * m - low)) (λ k. not (changes k)))) [
     | inl e ↦ let l = any_out (suc (n * m - low)) (λ k. not (changes k)) e in
         let h : l.at < suc (n * m - low) = l.below in
         (l.at, record { stable = stable_of l.at (not-true _ l.passes); least = λ j h. unstable_of j (not-false _ (l.earlier j h)) }, omega arith)
