@@ -130,10 +130,6 @@ over_at at i xs old h l =
 -- ---- a list cut into pieces of n entries, and pieces one after another
 
 module _ (n : ℕ) where
-  pub length_pieces : (k : ℕ) (l : List ℕ) → length (first_chunks n k l) ≡ k
-  length_pieces zero l = refl
-  length_pieces (suc k) l = ap suc (length_pieces k (drop n l))
-
   pub concat_pieces : (k : ℕ) (l : List ℕ) → concat (first_chunks n k l) ≡ take (n * k) l
   concat_pieces zero l = rw (mul-zero n)
   concat_pieces (suc k) l =

@@ -100,7 +100,7 @@ impl fmt::Display for Refused {
     }
 }
 
-// A lent buffer that is written into, one text after another. The library's writers into a slice don't say what text they took.
+// A lent buffer that is written into, one text after another. What displaying into the library's writers of a slice gives, no contract says.
 #[derive(Drop)]
 struct Page<'a> {
     out: &'a mut [u8],

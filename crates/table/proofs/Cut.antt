@@ -51,9 +51,6 @@ module _ (cs : List (List ℕ)) (m : ℕ) (es : List ℕ) (count : length cs ≡
       rw (first_number i l, number i 1 l (omega arith), number i 2 l (omega arith), first_number (i - 1) k, number (i - 1) 1 k (omega arith), number (i - 1) 2 k (omega arith)))
 
   -- and of the first edge whose source is class c or a later one
-  pub source_cut : (i : ℕ) → i < m → source_of (concat cs) i ≡ source_of es i
-  source_cut i l = rw same (first_number i l)
-
   pub start_cut : (c : ℕ) → first_edge (concat cs) (length cs) c ≡ first_edge es m c
   start_cut c = rw (count, same) (first_ext m _ _ (λ i l. rw (first_number i l)))
 

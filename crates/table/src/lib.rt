@@ -262,7 +262,8 @@ pub fn known(t: Table, a: usize, b: usize) -> Result<(), Refusal>
     Ok(())
 }
 
-// The first edge whose source is class c or a later one, or how many there are, which is what the index holds then; no edge before `from` has such a source.
+// The first edge whose source is class c or a later one, or how many there are, which is what the index holds then. No edge before `from`, where the search for
+// the class before ended, has such a source; what is asked for is a place in all of the edges, so `from` stands beside them.
 // `index` promises this of edges in any order too, so no search by halves serves.
 fn edge_from(edges: &[[u16; 3]], from: usize, c: usize) -> usize
     requires { (e : ℕ) → e < from → source_of (concat edges.now) e < c }
