@@ -1,0 +1,2 @@
+-- Worked examples, as one list with one proof over the definitions.
+pub mod Rounds
