@@ -2,13 +2,14 @@
 -- The same lists as a description graph with the start rule of labels: this is the one place where labels are read.
 use Rattle.std.specs.Prelude.{ℕ, ◌+◌, ◌*◌, ◌<◌, ◌≡◌, true, ◌&&◌, List, length, get_or, ltb}
 use Rattle.std.specs.List.{concat}
-use Rattle.std.proofs.Common.{arith}
+use Rattle.std.proofs.Common.{sym, ◌∙◌, true≢false, arith}
 use Rattle.std.proofs.lemmas.Bool.{lt-ltb}
 use Rattle.std.proofs.lemmas.Bool.Decides.{nat_tests}
 use Rattle.ground.specs.Tests.{and_in}
 use Rattle.ground.specs.Relations.{Rel, Inside}
-use Rattle.ground.specs.Bits.{among, among_refl, among_trans}
+use Rattle.ground.specs.Bits.{among, among_in, among_refl, among_trans, has_zero}
 use Rattle.theory.specs.Graph.{Graph, Under}
+use Rattle.theory.specs.Rounds.{under_intro}
 use Rattle.table.specs.declared.Table.{Table}
 
 pub record Lent : Type 0 where
@@ -72,3 +73,9 @@ module _ (t : Lent) where
 
   pub fits_trans : (c b a : ℕ) → fits t c b ≡ true → fits t b a ≡ true → fits t c a ≡ true
   fits_trans c b a x y = fits_in c a (fits_inside c b x).0 (fits_inside b a y).1 (among_trans _ (labels_of t.labels b) _ (fits_out c b x) (fits_out b a y))
+
+-- a class with no labels and no edges stands for everything: every class lies under it
+pub nothing_above : (t : Lent) (b a : ℕ) → b < t.n → a < t.n → labels_of t.labels b ≡ 0 → ((i : ℕ) → i < t.m → source_of t.edges i ≡ b → ⊥) → Lies t b a
+nothing_above t b a h l none free = under_intro (graph_of t) (graph_of t) (fits t) t.n t.n (fits_inside t) b a
+    (fits_in t b a h l (rw none (among_in 0 (labels_of t.labels a) (λ i e. absurd (true≢false (sym e ∙ has_zero i))))))
+    (λ i il from. absurd (free i il from))
