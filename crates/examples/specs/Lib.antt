@@ -1,2 +1,3 @@
 -- Worked examples, as one list with one proof over the definitions.
 pub mod Rounds
+pub mod Files
