@@ -1,5 +1,5 @@
 -- The layout's file of a table: a head, then the classes, then the edges, in blocks that are full but for the last of each kind.
-use Rattle.std.specs.Prelude.{ℕ, ◌+◌, ◌*◌, ◌-◌, ◌/◌, Bool, true, false, List, ◌++◌, get_or, eqb, leb, min}
+use Rattle.std.specs.Prelude.{ℕ, ◌+◌, ◌*◌, ◌-◌, ◌/◌, Bool, true, false, List, ◌++◌, eqb, leb, min}
 use Rattle.ground.specs.Bytes.{le}
 use Rattle.ground.specs.Runs.{cat}
 use Rattle.table.specs.Lent.{Lent, labels_of, source_of, role_of, target_of}

@@ -1,13 +1,12 @@
 -- How long blocks and files are: 512 bytes a block, whatever it holds, and at most 19 blocks a file of a table within the limits.
-use Rattle.std.specs.Prelude.{◌≡◌, refl, ℕ, ◌+◌, ◌*◌, ◌≤◌, List, length, min}
-use Rattle.std.proofs.Common.{arith, ◌∙◌, length-append}
-use Rattle.ground.specs.Bytes.{le, length_le, zeros, length_zeros}
-use Rattle.ground.specs.Runs.{cat, length_cat}
-use Rattle.table.specs.Limits.{class_limit, edge_limit}
-use Rattle.table.specs.Lent.{Lent, labels_of, source_of, role_of, target_of}
+use Rattle.std.specs.Prelude.{◌≡◌, ℕ, ◌+◌, ◌*◌, ◌≤◌, List, length}
+use Rattle.std.proofs.Common.{arith, length-append}
+use Rattle.ground.specs.Bytes.{length_le, length_zeros}
+use Rattle.ground.specs.Runs.{length_cat}
+use Rattle.table.specs.Lent.{Lent, labels_of}
 use Rattle.table.specs.Allowed.{Allowed}
-use Rattle.file.specs.Block.{check_of_block, body_of, sealed, block_of}
-use Rattle.file.specs.Layout.{Content, head, classes, edges, blocks_of, content_at, count_of, size_of, counts_bytes, class_bytes, edge_bytes, record_of, records_of, block_with, block_at, file_of}
+use Rattle.file.specs.Block.{body_of, sealed, block_of}
+use Rattle.file.specs.Layout.{Content, head, classes, edges, blocks_of, content_at, count_of, size_of, record_of, records_of, block_at, file_of}
 use Rattle.file.specs.Reading.{file_limit}
 
 pub length_body : (kind number count : ℕ) (records : List ℕ) → length records ≤ 502 → length (body_of kind number count records) ≡ 510

@@ -2,4 +2,5 @@
 pub mod Block
 pub mod Layout
 pub mod Reading
+pub mod Calls
 pub mod Lengths

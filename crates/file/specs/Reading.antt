@@ -1,15 +1,15 @@
--- What stands in a byte string that is read as a file, and what is wrong with it, in the order of the checks: 9, 1, 2, 3 for block 0, 4, 3 for the formula,
+-- What stands in a byte string that is read as a file, and what is wrong with it, in the order of the checks: 1, 2, 3 for block 0, 4, 3 for the formula,
 -- 3 for the other blocks, 5, 6, 7.
-use Rattle.std.specs.Prelude.{ℕ, ◌+◌, ◌*◌, ◌-◌, ◌/◌, ◌%◌, Bool, not, ◌&&◌, ◌||◌, List, ◌++◌, length, drop, eqb, ltb}
+use Rattle.std.specs.Prelude.{ℕ, ◌+◌, ◌*◌, ◌-◌, ◌/◌, ◌%◌, Bool, not, ◌&&◌, ◌||◌, List, length, eqb, ltb}
 use Rattle.ground.specs.Lists.{part, tabulate}
 use Rattle.ground.specs.Bytes.{blank, num, word}
-use Rattle.table.specs.Limits.{class_limit, edge_limit, labels_length, edges_length}
-use Rattle.table.specs.Answer.{Outcome, refuse, refuse_first, after, ◌then◌}
+use Rattle.table.specs.Limits.{class_limit, edge_limit}
+use Rattle.table.specs.Answer.{Outcome, refuse, refuse_first, ◌then◌}
 use Rattle.table.specs.Lent.{Lent}
-use Rattle.table.specs.Check.{over_limit, contents_of, check_of}
-use Rattle.table.specs.declared.Refusal.TheVariants.{BadLength, BadCheck, BadBlock, OverLimit, ShortBuffer}
+use Rattle.table.specs.Check.{over_limit, contents_of}
+use Rattle.table.specs.declared.Refusal.TheVariants.{BadLength, BadCheck, BadBlock, OverLimit}
 use Rattle.file.specs.Block.{check_of_block}
-use Rattle.file.specs.Layout.{Content, classes_in_block, edges_in_block, class_blocks, blocks_of, content_at, kind_of, count_of, size_of, file_of}
+use Rattle.file.specs.Layout.{Content, classes_in_block, edges_in_block, class_blocks, blocks_of, content_at, kind_of, count_of, size_of}
 
 -- the length of the longest file
 abbrev pub file_limit : ℕ
@@ -79,21 +79,3 @@ wrong_with f =
     refuse_first (blocks_in f) (check_wrong f) BadCheck then
     refuse (head_wrong f) (BadBlock 0) then
     table_wrong f (table_in f)
-
--- of the reader, with lent labels and edges of these lengths
-unfoldable pub read_checks : List ℕ → ℕ → ℕ → Outcome
-read_checks f labels edges = refuse (ltb labels labels_length || ltb edges edges_length) ShortBuffer then wrong_with f
-
--- the lent buffers after the reading: the table's entries, and behind them what was there
-abbrev pub labels_read : Outcome → List ℕ → List ℕ → List ℕ
-labels_read o f old = after o old ((table_in f).labels ++ drop (table_in f).n old)
-
-abbrev pub edges_read : Outcome → List ℕ → List ℕ → List ℕ
-edges_read o f old = after o old ((table_in f).edges ++ drop (3 * (table_in f).m) old)
-
--- of the writer, with an output of this length; and the output after the writing: the file, and behind it what was there
-unfoldable pub write_checks : Lent → ℕ → Outcome
-write_checks t out = refuse (ltb out file_limit) ShortBuffer then check_of t
-
-abbrev pub written : Outcome → Lent → List ℕ → List ℕ
-written o t old = after o old (file_of t ++ drop (length (file_of t)) old)

@@ -1,6 +1,6 @@
 -- A byte string is accepted exactly if it is the layout's file of an allowed table; reading and writing undo each other.
 use Rattle.std.specs.Prelude.{◌≡◌, refl, ◌↔◌, ℕ, ◌*◌, ◌<◌, List, get_or, Ok}
-use Rattle.std.proofs.Common.{sym, ap, ◌∙◌, subst}
+use Rattle.std.proofs.Common.{sym, ◌∙◌, subst}
 use Rattle.ground.specs.Lists.{get_or_tabulate}
 use Rattle.ground.specs.Bytes.{Bytes}
 use Rattle.table.specs.Lent.{Lent, labels_of}

@@ -1,11 +1,10 @@
 -- One block: what the layout makes passes the tests, and what passes them is what the layout makes of the records in it.
-use Rattle.std.specs.Prelude.{◌≡◌, refl, Bool, true, false, ◌&&◌, ℕ, zero, suc, ◌+◌, ◌*◌, ◌-◌, ◌%◌, ◌^◌, ◌≤◌, ◌<◌, List, [], ◌∷◌, ◌++◌, length, eqb}
+use Rattle.std.specs.Prelude.{◌≡◌, refl, true, ℕ, zero, suc, ◌+◌, ◌*◌, ◌-◌, ◌%◌, ◌^◌, ◌≤◌, ◌<◌, List, [], ◌∷◌, ◌++◌, length, eqb}
 use Rattle.std.proofs.Common.{sym, ap, ap₂, ◌∙◌, arith, append_assoc, length-append, eqb-true, eq-eqb, add-zero}
 use Rattle.std.proofs.lemmas.Bool.{and_parts}
-use Rattle.std.proofs.lemmas.Bool.Decides.{nat_tests}
 use Rattle.ground.specs.Tests.{and_in}
-use Rattle.ground.specs.Counts.{sum, sum_ext}
-use Rattle.ground.specs.Lists.{part, length_part, part_split, part_all, part_front, part_back, part_first, part_part}
+use Rattle.ground.specs.Counts.{sum_ext}
+use Rattle.ground.specs.Lists.{part, length_part, part_split, part_all, part_front, part_back, part_first}
 use Rattle.ground.specs.Bytes.{le, num, word, zeros, blank, Bytes, num_le, le_num_of, length_le, length_zeros, bytes_part}
 use Rattle.file.specs.Block.{check_of_block, body_of, sealed, block_of}
 use Rattle.file.specs.Reading.{shape_right}

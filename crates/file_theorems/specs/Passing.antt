@@ -1,14 +1,15 @@
 -- A byte string is accepted exactly if it passes each test.
-use Rattle.std.specs.Prelude.{◌≡◌, refl, Bool, true, false, not, ◌||◌, ◌↔◌, ℕ, ◌+◌, ◌*◌, ◌/◌, ◌%◌, ◌≤◌, ◌<◌, List, length, eqb, ltb, Ok, ⊤}
-use Rattle.std.proofs.Common.{sym, ap, ◌∙◌, arith, eqb-true, eq-eqb}
-use Rattle.std.proofs.lemmas.Bool.{not-true, not-false, le-ltb, ne_eqb}
+use Rattle.std.specs.Prelude.{◌≡◌, refl, false, not, ◌↔◌, ℕ, ◌*◌, ◌%◌, ◌<◌, List, length, eqb, Ok}
+use Rattle.std.proofs.Common.{arith, eqb-true, eq-eqb}
+use Rattle.std.proofs.lemmas.Bool.{not-false, le-ltb, ne_eqb}
+use Rattle.std.proofs.lemmas.Bool.Decides.{nat_tests}
 use Rattle.ground.specs.Tests.{first_passed}
-use Rattle.table.specs.Answer.{Outcome, ◌then◌, refuse, refuse_first, then_done, refuse_done, refuse_first_done}
+use Rattle.table.specs.Answer.{refuse, refuse_first, then_done, refuse_done, refuse_first_done}
 use Rattle.table.specs.Lent.{Lent}
 use Rattle.table.specs.Check.{over_limit, contents_of}
 use Rattle.table.specs.Allowed.{within_limits}
 use Rattle.table.specs.declared.Refusal.TheVariants.{BadLength, BadCheck, BadBlock, OverLimit}
-use Rattle.file.specs.Layout.{blocks_of, content_at, head}
+use Rattle.file.specs.Layout.{blocks_of, content_at}
 use Rattle.file.specs.Reading.{blocks_in, table_in, length_wrong, check_wrong, head_wrong, block_wrong, table_wrong, wrong_with}
 
 -- every test, by the counts of the table t
@@ -19,15 +20,8 @@ pub record Passes (f : List ℕ) (t : Lent) : Type 0 where
   pub shapes : (b : ℕ) → b < blocks_of t.n t.m → block_wrong f t.n t.m b ≡ false
   pub contents : contents_of t ≡ Ok tt
 
-or_false : (a b : Bool) → (a || b) ≡ false → (a ≡ false) × (b ≡ false)
-or_false true b e = cc
-or_false false b e = (refl, e)
-
 whole : (f : List ℕ) → length_wrong f ≡ false → length f % 512 ≡ 0
-whole f e =
-    let a = or_false (eqb (length f) 0) _ e in
-    let b = or_false (not (eqb (length f % 512) 0)) _ a.1 in
-    eqb-true (length f % 512) 0 (not-false _ b.0)
+whole f e = grind (arith, nat_tests)
 
 pub accepted_passes : (f : List ℕ) → wrong_with f ≡ Ok tt → Passes f (table_in f)
 unfolding wrong_with

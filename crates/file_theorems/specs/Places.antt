@@ -1,9 +1,9 @@
 -- Which block holds what: the block of a content, and the content of a block.
-use Rattle.std.specs.Prelude.{◌≡◌, refl, ℕ, suc, ◌+◌, ◌*◌, ◌-◌, ◌/◌, ◌≤◌, ◌<◌}
-use Rattle.std.proofs.Common.{sym, ap, ◌∙◌, arith, mul-suc, mul-le-mul_left}
+use Rattle.std.specs.Prelude.{◌≡◌, refl, ℕ, suc, ◌+◌, ◌*◌, ◌-◌, ◌≤◌, ◌<◌}
+use Rattle.std.proofs.Common.{ap, ◌∙◌, arith, mul-suc, mul-le-mul_left}
 use Rattle.std.proofs.Math.Decide.{dec_lt}
 use Rattle.std.proofs.lemmas.Bool.{ne_eqb, le-leb, lt-leb}
-use Rattle.file.specs.Layout.{Content, head, classes, edges, class_blocks, edge_blocks, blocks_of, content_at, count_of, size_of}
+use Rattle.file.specs.Layout.{Content, head, classes, edges, class_blocks, content_at}
 
 pub at_classes : (n b : ℕ) → (b ≡ 0 → ⊥) → b ≤ class_blocks n → content_at n b ≡ classes (b - 1)
 unfolding content_at

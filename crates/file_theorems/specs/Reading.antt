@@ -1,9 +1,9 @@
 -- What passes the tests is the file of the table that stands in it.
-use Rattle.std.specs.Prelude.{◌≡◌, refl, ℕ, ◌+◌, ◌*◌, ◌-◌, ◌/◌, ◌%◌, ◌≤◌, ◌<◌, List, ◌++◌, length, get_or}
+use Rattle.std.specs.Prelude.{◌≡◌, ℕ, ◌+◌, ◌*◌, ◌/◌, ◌%◌, ◌≤◌, ◌<◌, List, ◌++◌, length, get_or}
 use Rattle.std.proofs.Common.{sym, ap, ap₂, ◌∙◌, arith, add-zero, eqb-true}
 use Rattle.std.proofs.lemmas.Bool.{not-false}
-use Rattle.ground.specs.Lists.{part, tabulate, get_or_tabulate, length_part, part_split, part_part}
-use Rattle.ground.specs.Bytes.{le, num, word, Bytes, le_num_of, bytes_part}
+use Rattle.ground.specs.Lists.{part, get_or_tabulate, length_part, part_split, part_part}
+use Rattle.ground.specs.Bytes.{le, word, Bytes, le_num_of, bytes_part}
 use Rattle.ground.specs.Runs.{cat, cat_ext, cat_split}
 use Rattle.table.specs.Lent.{Lent}
 use Rattle.file.specs.Block.{check_of_block, block_of}

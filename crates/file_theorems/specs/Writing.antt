@@ -1,22 +1,20 @@
 -- The file of an allowed table passes the tests, and the table is what stands in it.
-use Rattle.std.specs.Prelude.{◌≡◌, refl, Bool, false, not, ℕ, zero, suc, ◌+◌, ◌*◌, ◌-◌, ◌/◌, ◌%◌, ◌^◌, ◌≤◌, ◌<◌, List, ◌++◌, length, get_or, eqb, Ok}
+use Rattle.std.specs.Prelude.{◌≡◌, refl, false, not, ℕ, zero, suc, ◌+◌, ◌*◌, ◌/◌, ◌%◌, ◌^◌, ◌≤◌, ◌<◌, List, ◌++◌, length, get_or}
 use Rattle.std.proofs.Common.{sym, ap, ◌∙◌, arith, add-zero, eqb-true, eq-eqb}
 use Rattle.std.proofs.lemmas.Bool.{not-false, le-ltb}
-use Rattle.std.proofs.lemmas.Bool.Decides.{nat_tests}
 use Rattle.std.proofs.Math.Pow.{pow_pos, pow_mono}
 use Rattle.std.proofs.Math.Nat.{lt-div-mul-add, zero-mul, zero-add}
-use Rattle.ground.specs.Lists.{part, tabulate, get_or_tabulate, part_part}
+use Rattle.ground.specs.Lists.{part, get_or_tabulate, part_part}
 use Rattle.ground.specs.Bytes.{le, num, word, num_le}
-use Rattle.ground.specs.Runs.{cat, cat_part}
+use Rattle.ground.specs.Runs.{cat_part}
 use Rattle.table.specs.Lent.{Lent, labels_of, source_of, role_of, target_of}
-use Rattle.table.specs.Check.{label_over, over_limit, edge_before, contents_of}
+use Rattle.table.specs.Check.{label_over}
 use Rattle.table.specs.Allowed.{Allowed, contents_right}
-use Rattle.file.specs.Block.{check_of_block, block_of}
 use Rattle.file.specs.Layout.{Content, head, classes, edges, class_blocks, edge_blocks, blocks_of, content_at, kind_of, count_of, size_of, counts_bytes, edge_bytes, record_of, records_of, block_with, block_at, file_of}
-use Rattle.file.specs.Reading.{block, label_in, number_in, table_in, table_with, check_wrong, block_wrong, content_right}
+use Rattle.file.specs.Reading.{block, label_in, number_in, table_in, table_with, check_wrong, block_wrong}
 use Rattle.file.specs.Lengths.{length_record, length_records, length_block_at, length_file, records_fit}
 use Rattle.file_theorems.specs.Blocks.{check_right, record_part, shape_of_block}
-use Rattle.file_theorems.specs.Passing.{Passes, passes_accepted}
+use Rattle.file_theorems.specs.Passing.{Passes}
 use Rattle.file_theorems.specs.Places.{at_classes, at_edges, record_end}
 
 -- the number r of three that stand one after the other
