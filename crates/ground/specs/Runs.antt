@@ -19,6 +19,10 @@ pub cat_more {ℓ} : {A : Type ℓ} (n : ℕ) (f : ℕ → List A) → cat (n + 
 unfolding cat
 cat_more n f = rw (add-one n)
 
+pub cat_le {ℓ} : {A : Type ℓ} (i n : ℕ) (f : ℕ → List A) → i ≤ n → length (cat i f) ≤ length (cat n f)
+unfolding cat
+cat_le i n f h = le_ind (λ (k : ℕ). length (cat i f) ≤ length (cat k f)) (le_refl _) (λ k l ih. omega (arith, length-append (cat k f) (f k))) n h
+
 pub cat_ext {ℓ} : {A : Type ℓ} (n : ℕ) (f g : ℕ → List A) → ((i : ℕ) → i < n → f i ≡ g i) → cat n f ≡ cat n g
 unfolding cat
 cat_ext zero f g h = refl
@@ -77,9 +81,8 @@ module _ {ℓ} {A : Type ℓ} (p : ℕ → Bool) (f : ℕ → List A) where
   gather_no i e = rw (add-one i, e) (append-nil (gather i p f))
 
   pub gather_le : (i n : ℕ) → i ≤ n → length (gather i p f) ≤ length (gather n p f)
-  unfolding gather cat
-  gather_le i n h = le_ind (λ (k : ℕ). length (gather i p f) ≤ length (gather k p f)) (le_refl _)
-      (λ k l ih. omega (arith, length-append (gather k p f) (when (p k) (f k)))) n h
+  unfolding gather
+  gather_le i n h = cat_le i n (λ k. when (p k) (f k)) h
 
   pub gather_skip : (i n : ℕ) → i ≤ n → ((k : ℕ) → i ≤ k → k < n → p k ≡ false) → gather n p f ≡ gather i p f
   gather_skip i n h none = le_ind (λ (m : ℕ). m ≤ n → gather m p f ≡ gather i p f) (λ _. refl)

@@ -1,15 +1,14 @@
 -- The listing's lines: a header with the counts and rounds, then for each class B the classes under it, ascending.
 use Rattle.std.specs.Prelude.{ℕ, zero, suc, ◌+◌, ◌*◌, ◌≤◌, ◌<◌, ◌≡◌, refl, Bool, true, false, length, ltb, List, [], ◌++◌, codes, decimal}
-use Rattle.std.proofs.Common.{sym, ap, inl, inr, arith, add-one, length-append}
+use Rattle.std.proofs.Common.{sym, ap, inl, inr, arith, add-one, append_assoc, length-append}
 use Rattle.ground.specs.Relations.{Rel}
-use Rattle.ground.specs.Runs.{cat, cat_more, gather, gather_yes, gather_no}
+use Rattle.ground.specs.Runs.{cat, cat_more, cat_le, gather, gather_yes, gather_no, gather_le}
 use Rattle.table.specs.Limits.{class_limit, relation_length}
 use Rattle.table.specs.Answer.{Outcome, number_of, place_of, number_lt, text_of, refuse, ◌then◌}
 use Rattle.table.specs.declared.Refusal.TheVariants.{ShortBuffer, OverLimit}
 use Rattle.table.specs.declared.Refusal.{Refusal}
-use Rattle.std.proofs.lemmas.Fmt.{length-decimal-le}
 use Rattle.std.proofs.lemmas.Bool.{cases_Bool}
-use Rattle.report.specs.Text.{length_number}
+use Rattle.report.specs.Text.{length_decimal, length_number}
 
 -- `classes 6 edges 4 rounds 2`
 abbrev pub header_of : ℕ → ℕ → ℕ → List ℕ
@@ -48,6 +47,11 @@ pub names_no : (a : ℕ) (p : ℕ → Bool) → p a ≡ false → names_of a p �
 unfolding names_of
 names_no a p e = sym (gather_no p (λ a. codes " " ++ decimal a) a e)
 
+-- of more classes there are as many bytes or more
+pub names_within : (k n : ℕ) (p : ℕ → Bool) → k ≤ n → length (names_of k p) ≤ length (names_of n p)
+unfolding names_of
+names_within k n p h = gather_le p (λ a. codes " " ++ decimal a) k n h
+
 pub lines_zero : (n : ℕ) (r : Rel) → [] ≡ lines_of n r 0
 unfolding lines_of cat
 lines_zero n r = refl
@@ -55,6 +59,14 @@ lines_zero n r = refl
 pub lines_more : (n : ℕ) (r : Rel) (b : ℕ) → lines_of n r b ++ line_of n r b ≡ lines_of n r (b + 1)
 unfolding lines_of
 lines_more n r b = sym (cat_more b (line_of n r))
+
+pub lines_within : (n : ℕ) (r : Rel) (j k : ℕ) → j ≤ k → length (lines_of n r j) ≤ length (lines_of n r k)
+unfolding lines_of
+lines_within n r j k h = cat_le j k (line_of n r) h
+
+-- the line of a refused file is a text and a number, twice, and a newline
+pub refused_parts : (r : Refusal) → (codes "refused " ++ decimal (number_of r)) ++ ((codes " at " ++ decimal (place_of r)) ++ codes "\n") ≡ refused_line r
+refused_parts r = ap (λ (xs : List ℕ). codes "refused " ++ xs) (sym (append_assoc (decimal (number_of r)) (codes " at " ++ decimal (place_of r)) (codes "\n")))
 
 -- a header and the line of a refused file are short
 pub length_header : (n m k : ℕ) → n < 100000 → m < 100000 → k < 100000 → length (header_of n m k) ≤ 40
@@ -68,7 +80,7 @@ length_refused r h =
 
 -- a class number has at most three digits
 pub length_class : (a : ℕ) → a < 256 → length (decimal a) ≤ 3
-length_class a h = length-decimal-le 3 a (omega arith) (omega arith) (omega arith)
+length_class a h = length_decimal 2 a (omega arith)
 
 pub length_names : (k : ℕ) (p : ℕ → Bool) → k ≤ 256 → length (names_of k p) ≤ 4 * k
 length_names zero p h = rw (sym (names_zero p)) (omega arith)

@@ -1,16 +1,49 @@
 -- Text as bytes: how long a number is, and a text written into a buffer.
-use Rattle.std.specs.Prelude.{ℕ, ◌+◌, ◌≤◌, ◌<◌, ◌≡◌, refl, decimal, List, [], ◌∷◌, ◌++◌, length}
-use Rattle.std.proofs.Common.{subst, sym, ap, ◌∙◌, arith, length-append}
-use Rattle.std.proofs.lemmas.Fmt.{length-decimal-le}
+use Rattle.std.specs.Prelude.{ℕ, zero, suc, ◌+◌, ◌/◌, ◌%◌, ◌^◌, ◌==◌, ◌≤◌, ◌<◌, ◌≡◌, false, refl, decimal, List, [], ◌∷◌, ◌++◌, length}
+use Rattle.std.proofs.Common.{subst, sym, ap, ◌∙◌, inl, inr, arith, le_refl, pow-suc, append_assoc, length-append}
+use Rattle.std.proofs.Math.Decide.{dec_lt, le_ind}
+use Rattle.std.proofs.lemmas.Bool.{cases_Bool}
+use Rattle.std.proofs.lemmas.Fmt.{decimal_digit, decimal_step, length-decimal-le_wide}
 use Rattle.std.proofs.Math.Seq.{drop-drop}
 use borrow.Rule.Slice.PartMut.{put_mid}
 use Rattle.std.specs.Borrow.{GName}
-use Rattle.std.specs.Fmt.{WritesInCalls}
+use Rattle.std.specs.Fmt.{WritesInCalls, digits, digits_onto, digit_glyph}
 use Rattle.std.specs.List.{FoldsTo, concat}
 use Rattle.ground.specs.Lists.{over, over_none, over_more, length_over}
 
+-- at most 64 digits of a number are written
+length_onto : (j n : ℕ) (acc : List ℕ) → length (digits_onto j 10 false n acc) ≤ j + length acc
+length_onto zero n acc = omega arith
+length_onto (suc j) n acc = elim (cases_Bool (n / 10 == 0)) [
+  | inl e ↦ rw e (omega arith)
+  | inr e ↦ rw e (omega (arith, length_onto j (n / 10) (digit_glyph false (n % 10) ∷ acc)))
+]
+
+ten_more : (i j : ℕ) → i ≤ j → 10 ^ i ≤ 10 ^ j
+ten_more i j h = le_ind (λ (k : ℕ). 10 ^ i ≤ 10 ^ k) (le_refl _) (λ k l ih. omega (arith, pow-suc 10 k)) j h
+
+-- a number has no more digits than a power of ten that it lies below
+pub length_decimal : (k v : ℕ) → v < 10 ^ suc k → length (decimal v) ≤ suc k
+unfolding digits
+length_decimal k v h = elim (dec_lt k 64) [
+  | yes l ↦ length-decimal-le_wide (suc k) v (omega arith) h (omega (arith, ten_more (suc k) 64 (omega arith)))
+  | no l ↦ omega (arith, length_onto 64 v [])
+]
+
+-- two digits at a time
+pub decimal_pair : (v : ℕ) → 10 ≤ v → v < 100 → decimal v ≡ (48 + v / 10 % 10) ∷ (48 + v % 10) ∷ []
+decimal_pair v h l =
+    let tens : v / 10 % 10 ≡ v / 10 = omega arith in
+    decimal_step v h (omega arith) ∙ ap (λ (xs : List ℕ). xs ++ ((48 + v % 10) ∷ [])) (decimal_digit (v / 10) (omega arith) ∙ ap (λ (d : ℕ). (48 + d) ∷ []) (sym tens))
+
+pub decimal_hundreds : (v : ℕ) → 100 ≤ v → v < 2 ^ 64 → decimal v ≡ decimal (v / 100) ++ ((48 + v / 10 % 10) ∷ (48 + v % 10) ∷ [])
+decimal_hundreds v h l =
+    let hundreds : v / 10 / 10 ≡ v / 100 = omega arith in
+    decimal_step v (omega arith) l ∙ ap (λ (xs : List ℕ). xs ++ ((48 + v % 10) ∷ [])) (decimal_step (v / 10) (omega arith) (omega arith))
+    ∙ append_assoc (decimal (v / 10 / 10)) ((48 + v / 10 % 10) ∷ []) ((48 + v % 10) ∷ []) ∙ ap (λ (n : ℕ). decimal n ++ ((48 + v / 10 % 10) ∷ (48 + v % 10) ∷ [])) hundreds
+
 pub length_number : (v : ℕ) → v < 100000 → length (decimal v) ≤ 5
-length_number v h = length-decimal-le 5 v (omega arith) h (omega arith)
+length_number v h = length_decimal 4 v h
 
 -- a text of at most eight bytes and a number
 pub length_count : (ws : List ℕ) (v : ℕ) → length ws ≤ 8 → v < 100000 → length (ws ++ decimal v) ≤ 13

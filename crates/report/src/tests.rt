@@ -48,6 +48,15 @@ fn two_chains(rt: HostRuntime) {
     let want = "0: 0\n1: 1\n2: 2\n3: 0 3\n4: 0 1 3 4\n5: 0 1 2 3 4 5\n";
     assert_eq!(rt; &rest[..len], want.as_bytes());
     assert!(rt; rest[len..].iter().all(|byte| *byte == b'#'));
+    let mut same = [b'#'; 100];
+    let first = header.write_to(&mut same).expect(&rt, "room for a header");
+    let rest = &mut same[first..];
+    let len = lines.write_to(rest).expect(&rt, "room for six lines");
+    assert_eq!(rt; len, want.len());
+    assert_eq!(rt; &same[..], &out[..]);
+    let mut short = [b'#'; 47];
+    assert_eq!(rt; short.len() + 1, want.len());
+    assert!(rt; lines.write_to(&mut short).is_err());
 }
 
 #[test]
@@ -56,8 +65,13 @@ fn a_refusal(rt: HostRuntime) {
     let len = write_into(&mut out, Refused(Refusal::BadBlock(1))).expect(&rt, "just room");
     assert_eq!(rt; len, 15);
     assert_eq!(rt; &out[..], "refused 3 at 1\n".as_bytes());
+    let mut same = [b'#'; 15];
+    let len = Refused(Refusal::BadBlock(1)).write_to(&mut same);
+    assert_eq!(rt; len, Ok(15));
+    assert_eq!(rt; &same[..], &out[..]);
     let mut short = [b'#'; 14];
     assert!(rt; write_into(&mut short, Refused(Refusal::BadBlock(1))).is_err());
+    assert!(rt; Refused(Refusal::BadBlock(1)).write_to(&mut short).is_err());
 }
 
 #[test]

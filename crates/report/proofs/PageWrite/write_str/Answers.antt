@@ -1,6 +1,0 @@
-use Rattle.std.proofs.Common.{refl, arith, ◌∙◌}
-use Rattle.report.specs.Text.{put_over}
-use Rattle.report.proofs.PageWrite.write_str.Goals as goal
-
-pub returns-clause-ok : goal.returns-clause-ok
-returns-clause-ok c ok = (refl, put_over c.args.self.now.at _ c.args.s.now c.args.self.now.out.now c.copy_from_slice.new.self (omega arith) (omega arith) (c.copy_from_slice.ensures.after ∙ c.as_bytes.ensures.value))
