@@ -42,6 +42,9 @@ decimal_hundreds v h l =
     decimal_step v (omega arith) l ∙ ap (λ (xs : List ℕ). xs ++ ((48 + v % 10) ∷ [])) (decimal_step (v / 10) (omega arith) (omega arith))
     ∙ append_assoc (decimal (v / 10 / 10)) ((48 + v / 10 % 10) ∷ []) ((48 + v % 10) ∷ []) ∙ ap (λ (n : ℕ). decimal n ++ ((48 + v / 10 % 10) ∷ (48 + v % 10) ∷ [])) hundreds
 
+pub decimal_three : (v : ℕ) → 100 ≤ v → v < 1000 → decimal v ≡ (48 + v / 100) ∷ (48 + v / 10 % 10) ∷ (48 + v % 10) ∷ []
+decimal_three v h l = decimal_hundreds v h (omega arith) ∙ ap (λ (xs : List ℕ). xs ++ ((48 + v / 10 % 10) ∷ (48 + v % 10) ∷ [])) (decimal_digit (v / 100) (omega arith))
+
 pub length_number : (v : ℕ) → v < 100000 → length (decimal v) ≤ 5
 length_number v h = length_decimal 4 v h
 

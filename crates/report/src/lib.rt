@@ -1,7 +1,7 @@
 // What the programs print, as values that are displayed.
 #![tactic(auto)]
 
-ghost use Rattle.std.specs.Prelude.{◌≡◌, Some, ℕ, ◌+◌, ◌*◌, ◌≤◌, ◌<◌, ◌++◌, length, IfOk, IfSome, IsOk, OnErr, decimal, [], ◌∷◌};
+ghost use Rattle.std.specs.Prelude.{◌≡◌, Some, ℕ, ◌+◌, ◌*◌, ◌≤◌, ◌<◌, ◌++◌, length, IfOk, IfSome, IsOk, OnErr, codes, decimal, [], ◌∷◌};
 ghost use Rattle.std.specs.Fmt.{DisplaysOnOk};
 ghost use Rattle.relation.specs.Words.{bit_of};
 ghost use Rattle.report.specs.Text.{Wrote};
@@ -103,8 +103,7 @@ impl Lines<'_> {
         for a in 0..self.n {
             let is_under = relation::holds(self.relation, b as usize, a);
             if is_under {
-                page.put_byte(b' ')?;
-                page.put_number(a)?;
+                page.put_name(a as u8)?;
             }
         }
         Ok(())
@@ -257,6 +256,22 @@ impl Page<'_> {
             self.put_number(v / 100)?;
         }
         self.put(&[b'0' + (v / 10 % 10) as u8, b'0' + (v % 10) as u8])
+    }
+
+    // A space and a class's number, in one piece: each piece waits until the page's place is written, and a listing has many of these.
+    fn put_name(&mut self, a: u8) -> fmt::Result
+        ensures ok { IsOk result → Took self.old (codes " " ++ decimal a) self.new }
+        ensures fits { HasRoom self.old (codes " " ++ decimal a) → IsOk result }
+    {
+        let tens = b'0' + a / 10 % 10;
+        let ones = b'0' + a % 10;
+        if a < 10 {
+            return self.put(&[b' ', ones]);
+        }
+        if a < 100 {
+            return self.put(&[b' ', tens, ones]);
+        }
+        self.put(&[b' ', b'0' + a / 100, tens, ones])
     }
 
     // A text and a number.
