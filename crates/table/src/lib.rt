@@ -195,9 +195,7 @@ fn bad_edge(edges: &[[u16; 3]], n: usize, q: usize) -> Option<usize>
         .position(|&edge| Edge::from(edge).is_outside(n, q))
 }
 
-// The lowest edge that does not stand after the edge before it. `windows` would give its place less one. Its loop is compiled apart from those of the other
-// searches, among which it took a third more time.
-#[inline(never)]
+// The lowest edge that does not stand after the edge before it. `windows` would give its place less one.
 fn bad_order(edges: &[[u16; 3]]) -> Option<usize>
     ensures { result ≡ found (length edges.now) (order_wrong (concat edges.now)) }
 {
