@@ -30,7 +30,12 @@ length_decimal k v h = elim (dec_lt k 64) [
   | no l ↦ omega (arith, length_onto 64 v [])
 ]
 
--- two digits at a time
+-- a number of one digit, of two, of three, and two digits of a longer one
+pub decimal_single : (v : ℕ) → v < 10 → decimal v ≡ (48 + v % 10) ∷ []
+decimal_single v h =
+    let same : v % 10 ≡ v = omega arith in
+    decimal_digit v h ∙ ap (λ (d : ℕ). (48 + d) ∷ []) (sym same)
+
 pub decimal_pair : (v : ℕ) → 10 ≤ v → v < 100 → decimal v ≡ (48 + v / 10 % 10) ∷ (48 + v % 10) ∷ []
 decimal_pair v h l =
     let tens : v / 10 % 10 ≡ v / 10 = omega arith in

@@ -259,6 +259,7 @@ impl Page<'_> {
     }
 
     // A space and a class's number, in one piece: each piece waits until the page's place is written, and a listing has many of these.
+    #[tactic(auto, using(crate::specs::Text::decimal_single, crate::specs::Text::decimal_pair, crate::specs::Text::decimal_three))]
     fn put_name(&mut self, a: u8) -> fmt::Result
         ensures ok { IsOk result → Took self.old (codes " " ++ decimal a) self.new }
         ensures fits { HasRoom self.old (codes " " ++ decimal a) → IsOk result }
